@@ -1,6 +1,7 @@
 pub mod Checks
 pub mod Shapes
 pub mod Verdict
+pub mod Arcs
 pub mod Checked
 pub mod Nodes
 pub mod Points

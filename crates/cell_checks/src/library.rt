@@ -5,8 +5,8 @@ ghost use Rattle.cell_checks.specs.Checked.{library_of, IsChecked};
 use cell_model::Cell;
 use std::marker::Model;
 
-/// The cells of a library in the order of their list. Each has passed its checks, but for that of columns, and their names are
-/// different.
+/// The cells of a library in the order of their list. Each has passed its checks, but for that of columns, their names are
+/// different, and the usable ones have their arcs.
 #[derive(Drop)]
 pub struct Library {
     cells: Vec<Cell>,

@@ -61,7 +61,7 @@ measured_ports : (g : List GenericValue) (ports : List Port) → map (λ (p : Pi
 measured_ports g [] = refl
 measured_ports g (p ∷ ports) = ap (λ (l : List Port). p ∷ l) (measured_ports g ports)
 
-ports_are : (text : CellText) (c : Cell) → DoesAs text c → pin_ports c ≡ text.ports
+pub ports_are : (text : CellText) (c : Cell) → DoesAs text c → pin_ports c ≡ text.ports
 ports_are text c d = ap (λ (l : List Pin). map (λ p. p.port) l) d.pins ∙ measured_ports text.generics text.ports
 
 irreflexive : (n : Name) → name_cmp n n ≡ Less → ⊥
@@ -231,6 +231,9 @@ known : (vbe : List ℕ) (text : CellText) (c : Cell) → IsCellText vbe text �
 known vbe text c t d =
     known_by t.design text.machine d.computed c t.behaviour
     (subst (λ (l : List Port). ArePins (pin_bits (symbols t.design)) text.machine l) (sym (ports_are text c d)) t.pins) d.computes d.function
+
+pub pins_different : (source : Source) (c : Cell) → IsSaid source c → AllDifferent (names_of (pin_ports c))
+pins_different source c s = different_in_order (names_of (pin_ports c)) (known source.vbe s.text c s.text_read s.does).order
 
 -- ---- what is known by the layout
 

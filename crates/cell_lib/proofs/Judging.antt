@@ -8,13 +8,15 @@ use Rattle.vlsi_base.specs.declared.fault.LimitKind.TheVariants.{Width}
 use Rattle.vbe_io.specs.declared.cell_text.CellText.{CellText}
 use Rattle.vbe_io.specs.Cell.{IsCellText}
 use Rattle.cell_model.specs.Cell.{Cell}
+use Rattle.cell_model.specs.Library.{IsUsable}
 use Rattle.cell_model.specs.Usable.{IsFormed}
-use Rattle.cell_model.proofs.Members.{All-from, In-map}
+use Rattle.cell_model.proofs.Members.{All-In, All-from, In-map}
 use Rattle.cell_checks.specs.declared.verdict.Check.{Check}
 use Rattle.cell_checks.specs.declared.verdict.Check.TheVariants as check
 use Rattle.cell_checks.specs.declared.verdict.CellVerdict.{CellVerdict}
 use Rattle.cell_checks.specs.declared.verdict.CellVerdict.TheVariants as verdict
 use Rattle.cell_checks.specs.Verdict.{check_number, PassesCheck, IsVerdict}
+use Rattle.cell_checks.specs.Arcs.{HasItsArcs, HaveTheirArcs}
 use Rattle.cell_checks.specs.Checked.{library_of, IsChecked}
 use Rattle.cell_lib.specs.declared.error.LibError.{LibError}
 use Rattle.cell_lib.specs.declared.error.LibError.TheVariants as errors
@@ -23,6 +25,7 @@ use Rattle.cell_lib.specs.Causes.{IsLayoutRefusal}
 use Rattle.cell_lib.specs.Library.{IsSaid, IsUnsaid, layout, IsCheckRefusal, fails, wide, IsCell, IsCellRefusal, unsaid, unfit}
 use Rattle.cell_lib.proofs.Telling.{or_memory}
 use Rattle.cell_lib.proofs.Forming.{formed}
+use Rattle.cell_lib.proofs.Arcs.{has_arcs, cell_in}
 
 -- ---- refusals
 
@@ -78,6 +81,11 @@ apart (c ∷ cs) h =
     (All-from (AreNamedApart c) cs (λ x i e. h.0 (subst (λ (n : List ℕ). In n (map (λ (y : Cell). y.name) cs)) (sym e) (In-map (λ (y : Cell). y.name) x cs i))))
     (apart cs h.1)
 
+pub have_arcs : (tracks : Bool) (ss : List Source) (cells : List Cell) → AreCells (IsCell tracks) ss cells → HaveTheirArcs (library_of cells)
+have_arcs tracks ss cells are model c found =
+    All-In (λ (x : Cell). IsUsable x → HasItsArcs x) cells (all_cells (λ (x : Cell). IsUsable x → HasItsArcs x) tracks ss cells (λ s x h. has_arcs s x h.said) are) c
+    (cell_in cells model c found)
+
 -- what passes with tracks passes without them
 pub without : (tracks : Bool) (c : Cell) (k : Check) → PassesCheck tracks c k → PassesCheck false c k
 without tracks c check.Connectors h = h
@@ -95,4 +103,5 @@ library_checked tracks names files cells different are = record {
   formed = all_cells IsFormed tracks (sources names files) cells (λ s c h. formed s c h.said) are;
   passes = all_cells (λ c. IsVerdict false c verdict.Passes) tracks (sources names files) cells (λ s c h. (λ k. without tracks c k (h.passes.0 k), h.passes.1)) are;
   names = apart cells (subst (λ (l : List (List ℕ)). AllDifferent l) (sym (cell_names tracks (sources names files) cells are ∙ source_names names files)) different);
+  arcs = have_arcs tracks (sources names files) cells are;
 }

@@ -9,7 +9,7 @@ use Rattle.cell_lib.specs.Cells.{Source, sources, AreCells, none, next}
 use Rattle.cell_lib.specs.Library.{IsCell}
 use Rattle.cell_lib.specs.Laws.{LibraryPasses, LibraryNeedsNoTracks}
 use Rattle.cell_lib.proofs.Forming.{formed}
-use Rattle.cell_lib.proofs.Judging.{all_cells, cell_names, source_names, apart, without}
+use Rattle.cell_lib.proofs.Judging.{all_cells, have_arcs, cell_names, source_names, apart, without}
 
 pub passes : LibraryPasses
 passes tracks list files l h = record {
@@ -17,6 +17,7 @@ passes tracks list files l h = record {
   passes = all_cells (λ c. IsVerdict tracks c verdict.Passes) tracks (sources h.names files) l.cells (λ s c k. k.passes) h.cells;
   names = apart l.cells
       (subst (λ (names : List (List ℕ)). AllDifferent names) (sym (cell_names tracks (sources h.names files) l.cells h.cells ∙ source_names h.names files)) h.uses.used.different);
+  arcs = have_arcs tracks (sources h.names files) l.cells h.cells;
 }
 
 cells_without : (tracks : Bool) (ss : List Source) (cells : List Cell) → AreCells (IsCell tracks) ss cells → AreCells (IsCell false) ss cells

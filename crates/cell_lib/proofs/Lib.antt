@@ -1,4 +1,5 @@
 mod Forming
+mod Arcs
 mod Judging
 mod Loading
 mod Making

@@ -3,6 +3,7 @@ use Rattle.std.proofs.Common.{◌≡◌, ◌⊎◌, inl, inr, ℕ, ◌+◌, ◌<
 use Rattle.std.specs.Prelude.{◌↔◌, slice_index}
 use Rattle.std.specs.Global.{Vec}
 use Rattle.cell_model.specs.Library.{Library}
+use Rattle.cell_checks.specs.Arcs.{HaveTheirArcs}
 use Rattle.net_core.specs.Places.{IsThere}
 use Rattle.net_core.specs.Netlist.{Netlist, IsNetlist, InTurn, ended, again, first}
 use Rattle.delay_sta.specs.declared.arrivals.Delays.{Delays}
@@ -10,7 +11,7 @@ use Rattle.delay_sta.specs.declared.graph.TimedArc.{TimedArc}
 use Rattle.delay_sta.specs.Paths.{Arrives, IsEnd, IsGreatest}
 use Rattle.delay_sta.specs.Timed.{CanBeTimed, IsPathOrder, AreDelaysOf}
 use Rattle.delay_sta.specs.Graph.{AreFound, AreArcsOf, AreReached, AreStartsOf, AreSettled, AreInTime, AreSources, IsGraph, IsLatest, group_of}
-use Rattle.delay_sta.specs.Exchanged.{HaveTheirArcs, IsExchangeAt, IsSetTo}
+use Rattle.delay_sta.specs.Exchanged.{IsExchangeAt, IsSetTo}
 use Rattle.delay_sta.specs.Changes.{ArePinClasses, AreLoads, IsPlaced, AreRetimed}
 use Rattle.delay_sta.proofs.Differing.{Differ, flip, differ_of, AllArcs, all_arcs, all_arcs_over}
 use Rattle.delay_sta.proofs.Resting.{delays_in_time, delays_sources}

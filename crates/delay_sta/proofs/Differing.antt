@@ -12,6 +12,7 @@ use Rattle.cell_model.specs.declared.cell.Arc.{Arc}
 use Rattle.cell_model.specs.declared.cell.Pin.{Pin}
 use Rattle.cell_model.specs.Cell.{Function, Cell, pin_ports}
 use Rattle.cell_model.specs.Library.{Library, cell_of, IsUsable}
+use Rattle.cell_checks.specs.Arcs.{HasPin, BeginsThere, GoesThrough, Begins, HasItsArcs, HaveTheirArcs}
 use Rattle.net_core.specs.Places.{Stands, IsThere}
 use Rattle.net_core.specs.Netlist.{Instance, Netlist, port, pin_of, terminals, HasClass}
 use Rattle.net_core.proofs.Standing.{stands_same}
@@ -20,10 +21,10 @@ use Rattle.net_core.proofs.Changing.{terminals_set}
 use Rattle.delay_sta.specs.declared.graph.TimedArc.{TimedArc}
 use Rattle.delay_sta.specs.Arcs.{arc_delay}
 use Rattle.delay_sta.specs.Loads.{load}
-use Rattle.delay_sta.specs.Paths.{HasPin, IsStepAt, IsStart, BeginsThere, GoesThrough}
+use Rattle.delay_sta.specs.Paths.{IsStepAt, IsStart}
 use Rattle.delay_sta.specs.Graph.{step_of, IsTimedAt, IsOwned}
 use Rattle.delay_sta.specs.Timed.{CanBeTimed}
-use Rattle.delay_sta.specs.Exchanged.{Begins, HasItsArcs, HaveTheirArcs, AreAlike, IsExchangeAt, IsSetTo}
+use Rattle.delay_sta.specs.Exchanged.{AreAlike, IsExchangeAt, IsSetTo}
 use Rattle.delay_sta.specs.Changes.{IsOnlyArc, IsPlaced}
 
 -- ---- lists in which one element is another

@@ -5,13 +5,14 @@ use Rattle.vlsi_base.specs.declared.name.Name.{Name}
 use Rattle.vlsi_base.specs.declared.name.Dir.TheVariants as dir
 use Rattle.cell_model.specs.declared.cell.Arc.{Arc}
 use Rattle.cell_model.specs.Cell.{Function, gate, flip_flop, other, opaque, Cell}
+use Rattle.cell_checks.specs.Arcs.{HasPin, BeginsThere, GoesThrough}
 use Rattle.net_core.specs.Places.{Stands, IsThere}
 use Rattle.net_core.specs.Netlist.{Instance, Netlist, IsNetlist, pin_of, HasClass}
 use Rattle.net_core.proofs.Finishing.{class_once}
 use Rattle.net_core.proofs.Standing.{stands_same}
 use Rattle.delay_sta.specs.declared.graph.TimedArc.{TimedArc}
 use Rattle.delay_sta.specs.Arcs.{arc_delay}
-use Rattle.delay_sta.specs.Paths.{Step, HasPin, IsStepAt, BeginsThere, GoesThrough}
+use Rattle.delay_sta.specs.Paths.{Step, IsStepAt}
 use Rattle.delay_sta.specs.Graph.{step_of, IsTimedAt, IsTimedOf, IsFoundAs}
 use Rattle.delay_sta.proofs.Placing.{pins_once}
 

@@ -14,13 +14,13 @@ use Rattle.machine_core.specs.Named.{is_same_text}
 use Rattle.cell_model.specs.declared.cell.Pin.{Pin}
 use Rattle.cell_model.specs.Cell.{Cell}
 use Rattle.cell_model.specs.Library.{Library, cell_named, cell_of}
+use Rattle.cell_checks.specs.Arcs.{HasPin}
 use Rattle.net_core.specs.declared.frame.Node.{Node}
 use Rattle.net_core.specs.Places.{Stands}
 use Rattle.net_core.specs.Frame.{instance_of}
 use Rattle.net_core.specs.Netlist.{Instance, Netlist}
 use Rattle.net_core.proofs.Standing.{stands_same}
 use Rattle.delay_sta.specs.Loads.{input_capacitance, pins_at, capacitances}
-use Rattle.delay_sta.specs.Paths.{HasPin}
 use Rattle.delay_sta.specs.Graph.{AreFound}
 use Rattle.delay_sta.proofs.Gathering.{AtNode}
 

@@ -10,6 +10,7 @@ use Rattle.vlsi_base.specs.declared.name.Name.{Name}
 use Rattle.cell_model.specs.declared.cell.Arc.{Arc}
 use Rattle.cell_model.specs.Cell.{Function, Cell}
 use Rattle.cell_model.specs.Library.{Library, cell_named, cell_of}
+use Rattle.cell_checks.specs.Arcs.{BeginsThere, GoesThrough}
 use Rattle.net_core.specs.declared.frame.Node.{Node}
 use Rattle.net_core.specs.Places.{Stands, IsThere}
 use Rattle.net_core.specs.Netlist.{Instance, Netlist, IsNetlist, pin_of}
@@ -20,7 +21,7 @@ use Rattle.net_core.proofs.Standing.{stands_same}
 use Rattle.delay_sta.specs.declared.graph.TimedArc.{TimedArc}
 use Rattle.delay_sta.specs.Arcs.{arc_delay}
 use Rattle.delay_sta.specs.Loads.{load}
-use Rattle.delay_sta.specs.Paths.{Step, IsStepAt, BeginsThere, GoesThrough}
+use Rattle.delay_sta.specs.Paths.{Step, IsStepAt}
 use Rattle.delay_sta.specs.Graph.{AreFound, step_of, IsTimedAt, IsTimedOf, IsFoundAs, IsOwned, IsShort, AddsArcs, AreTimedArcs}
 use Rattle.delay_sta.proofs.Grouping.{nothing_there, there_more}
 

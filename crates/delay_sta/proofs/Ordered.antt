@@ -10,6 +10,7 @@ use Rattle.cell_model.specs.Library.{Library, cell_named, cell_of}
 use Rattle.cell_model.proofs.Members.{All-In}
 use Rattle.cell_model.specs.Usable.{IsFormed}
 use Rattle.cell_checks.specs.Checked.{IsChecked}
+use Rattle.cell_checks.specs.Arcs.{BeginsThere, GoesThrough}
 use Rattle.cell_pins.specs.Pins.{all_ports}
 use Rattle.cell_pins.specs.Table.{IsListed, IsTableOf}
 use Rattle.net_core.specs.declared.pins.ModelPin.{ModelPin}
@@ -21,7 +22,7 @@ use Rattle.net_core.specs.Netlist.{Instance, Netlist, pin_of, HasClass}
 use Rattle.net_core.specs.Checks.{pins_named, Fits, IsPinTable, Passes, NoClass, has_fault, all_clocks, tally_of, roles, port_role, pin_role, pin_roles, DependsOn}
 use Rattle.net_core.specs.Links.{IsClassOrder}
 use Rattle.net_core.proofs.Rings.{each_there}
-use Rattle.delay_sta.specs.Paths.{Step, IsStep, BeginsThere, GoesThrough}
+use Rattle.delay_sta.specs.Paths.{Step, IsStep}
 use Rattle.delay_sta.specs.Timed.{CanBeTimed, IsAnyStep, a_beginning, going_on, IsPathOrder}
 use Rattle.delay_sta.proofs.Tables.{there_In, pins_same, Row, row_of, pin_at_place, signal_of, depends_there}
 

@@ -4,10 +4,11 @@ use Rattle.std.specs.Bool.{MatchBool}
 use Rattle.vlsi_base.specs.declared.name.Name.{Name}
 use Rattle.cell_model.specs.Cell.{Function}
 use Rattle.cell_model.specs.Library.{Library}
+use Rattle.cell_checks.specs.Arcs.{BeginsThere, GoesThrough}
 use Rattle.net_core.specs.Netlist.{Netlist, IsNetlist}
 use Rattle.delay_sta.specs.declared.graph.TimedArc.{TimedArc}
 use Rattle.delay_sta.specs.Loads.{load}
-use Rattle.delay_sta.specs.Paths.{Step, IsStep, BeginsThere, GoesThrough}
+use Rattle.delay_sta.specs.Paths.{Step, IsStep}
 use Rattle.delay_sta.specs.Graph.{step_of, IsOwned}
 use Rattle.delay_sta.proofs.Differing.{parts_of, timed_of}
 use Rattle.delay_sta.proofs.Placing.{pin_of_class}

@@ -6,12 +6,13 @@ use Rattle.std.specs.Global.{Vec}
 use Rattle.std.proofs.lemmas.Bool.{cases_lt}
 use Rattle.vlsi_base.specs.Member.{In, here, there, AllDifferent}
 use Rattle.cell_model.specs.Library.{Library}
+use Rattle.cell_checks.specs.Arcs.{BeginsThere, GoesThrough}
 use Rattle.net_core.specs.Places.{Stands, IsThere, NoneTwice}
 use Rattle.net_core.specs.Netlist.{Netlist, IsNetlist, pin_of}
 use Rattle.net_core.proofs.Rings.{class_below, each_there}
 use Rattle.delay_sta.specs.declared.graph.TimedArc.{TimedArc}
 use Rattle.delay_sta.specs.Loads.{load}
-use Rattle.delay_sta.specs.Paths.{Step, Leads, starts, begins, goes_on, TakesTo, IsStepAt, IsStep, BeginsThere, GoesThrough, IsStart, Arrives, IsGreatest}
+use Rattle.delay_sta.specs.Paths.{Step, Leads, starts, begins, goes_on, TakesTo, IsStepAt, IsStep, IsStart, Arrives, IsGreatest}
 use Rattle.delay_sta.specs.Timed.{IsAnyStep, a_beginning, going_on, IsPathOrder}
 use Rattle.delay_sta.specs.Graph.{step_of, IsOwned, AreTimedArcs, group_of, AreGrouped, AreArcsOf, AreOnward, AreReached, IsIn, IsGraph, StartsIn, AreStartsOf, AreSettled}
 use Rattle.delay_sta.proofs.Tables.{In_there}

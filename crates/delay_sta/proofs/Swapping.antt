@@ -13,9 +13,10 @@ use Rattle.net_core.specs.Places.{Stands}
 use Rattle.net_core.proofs.Frames.{mapped}
 use Rattle.net_core.proofs.Standing.{stands_same}
 use Rattle.std.proofs.lemmas.Option.{slice_get_read, get_or_from_slice_get}
+use Rattle.cell_checks.specs.Arcs.{HaveTheirArcs}
 use Rattle.delay_sta.specs.Loads.{input_capacitance}
 use Rattle.delay_sta.specs.Timed.{CanBeTimed}
-use Rattle.delay_sta.specs.Exchanged.{HaveTheirArcs, IsExchangeAt, IsSetTo}
+use Rattle.delay_sta.specs.Exchanged.{IsExchangeAt, IsSetTo}
 use Rattle.delay_sta.specs.Changes.{pin_load, ArePinClasses, AreLoads}
 use Rattle.delay_sta.proofs.Differing.{changed, differ_at, set_to_is}
 use Rattle.delay_sta.proofs.Reloading.{load_moves, load_had, load_room, short_over}

@@ -21,6 +21,7 @@ use Rattle.cell_model.specs.Cell.{Function, gate, flip_flop, other, opaque, Cell
 use Rattle.cell_model.specs.Library.{cell_named}
 use Rattle.cell_model.specs.Usable.{IsFormed}
 use Rattle.cell_model.specs.declared.cell.Pin.{Pin}
+use Rattle.cell_checks.specs.Arcs.{HasPin, GoesThrough}
 use Rattle.cell_pins.specs.Pins.{supply, with_supply, all_ports}
 use Rattle.cell_pins.specs.Follows.{DependsAtOnce}
 use Rattle.cell_pins.specs.Table.{first_places, DependsAt, IsPinOf, ArePins, one_pin, AreModels, no_models, listed, left_out}
@@ -32,7 +33,6 @@ use Rattle.net_core.proofs.Lookups.{same_of, itself}
 use Rattle.net_core.proofs.Standing.{stands_left, stands_right}
 use Rattle.net_core.proofs.Frames.{mapped}
 use Rattle.net_core.proofs.Pieces.{there_filter}
-use Rattle.delay_sta.specs.Paths.{HasPin, GoesThrough}
 
 -- ---- members and places
 

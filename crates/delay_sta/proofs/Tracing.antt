@@ -14,6 +14,7 @@ use Rattle.vlsi_base.specs.declared.name.Port.{Port}
 use Rattle.vlsi_base.specs.declared.name.Terminal.{Terminal}
 use Rattle.cell_model.specs.Cell.{Cell}
 use Rattle.cell_model.specs.Library.{Library}
+use Rattle.cell_checks.specs.Arcs.{BeginsThere, GoesThrough}
 use Rattle.net_core.specs.Places.{Stands, IsThere}
 use Rattle.net_core.specs.Netlist.{Instance, Netlist, IsNetlist, port, pin_of, pins_of, terminals, HasClass}
 use Rattle.net_core.proofs.Frames.{Within, flat_split, mapped, unmapped}
@@ -22,7 +23,7 @@ use Rattle.net_core.proofs.Standing.{Split, left, right, split, only_one, stands
 use Rattle.delay_sta.specs.declared.arrivals.Delays.{Delays}
 use Rattle.delay_sta.specs.declared.graph.TimedArc.{TimedArc}
 use Rattle.delay_sta.specs.Loads.{load}
-use Rattle.delay_sta.specs.Paths.{Step, Leads, starts, begins, goes_on, TakesTo, IsStepAt, IsStep, BeginsThere, GoesThrough, IsStart, IsEnd, at_port, at_data, Arrives, Ends, IsGreatest, IsWorst}
+use Rattle.delay_sta.specs.Paths.{Step, Leads, starts, begins, goes_on, TakesTo, IsStepAt, IsStep, IsStart, IsEnd, at_port, at_data, Arrives, Ends, IsGreatest, IsWorst}
 use Rattle.delay_sta.specs.Timed.{IsAnyStep, a_beginning, going_on, AreDelaysOf}
 use Rattle.delay_sta.specs.Graph.{step_of, IsTimedAt, IsOwned, group_of, later_by, arrival_by}
 use Rattle.delay_sta.specs.Exchanged.{IsMarked, IsTraced}

@@ -1,28 +1,13 @@
 -- Cells put in the place of others, and the classes of a longest path.
 use Rattle.std.specs.Prelude.{◌≡◌, ◌⊎◌, ◌↔◌, ℕ, Bool, true, false, List, Some, slice_index_or}
 use Rattle.vlsi_base.specs.declared.name.Name.{Name}
-use Rattle.vlsi_base.specs.declared.name.Dir.TheVariants as dir
-use Rattle.cell_model.specs.declared.cell.Arc.{Arc}
 use Rattle.cell_model.specs.Cell.{Function, Cell, pin_ports}
 use Rattle.cell_model.specs.Library.{Library, cell_of, IsUsable}
+use Rattle.cell_checks.specs.Arcs.{BeginsThere, GoesThrough}
 use Rattle.net_core.specs.Places.{Stands, IsThere}
 use Rattle.net_core.specs.Netlist.{Instance, Netlist, SetsModel}
-use Rattle.delay_sta.specs.Paths.{HasPin, BeginsThere, GoesThrough, IsStart, IsStep, IsEnd, IsWorst, TakesTo, Step}
+use Rattle.delay_sta.specs.Paths.{IsStart, IsStep, IsEnd, IsWorst, TakesTo, Step}
 use Rattle.delay_sta.specs.Graph.{data_pin}
-
--- paths begin at the pin, or go on from it
-abbrev pub Begins : Function → Name → Type 0
-Begins f pin = BeginsThere f pin ⊎ GoesThrough f pin
-
--- a cell has one arc from each input pin at which paths begin or from which they go on to each output pin
-pub record HasItsArcs (c : Cell) : Type 0 where
-  pub one : (from to : Name) → Begins c.function from → HasPin c.pins dir.In from → HasPin c.pins dir.Out to
-      → (k : ℕ) × (a : Arc) × Stands c.arcs k a × (a.from ≡ from) × (a.to ≡ to)
-  pub once : (j k : ℕ) (a b : Arc) → Stands c.arcs j a → Stands c.arcs k b → a.from ≡ b.from → a.to ≡ b.to → j ≡ k
-
--- so have all usable cells of a library
-abbrev pub HaveTheirArcs : Library → Type 0
-HaveTheirArcs l = (model : List ℕ) (c : Cell) → cell_of l model ≡ Some c → IsUsable c → HasItsArcs c
 
 -- paths begin at the same pins, go on from the same pins, and end at the same data pins
 pub record AreAlike (f g : Function) : Type 0 where

@@ -9,11 +9,12 @@ use Rattle.vlsi_base.specs.declared.name.Port.{Port}
 use Rattle.vlsi_base.specs.declared.name.Dir.TheVariants as dir
 use Rattle.vlsi_base.specs.Name.{is_supply}
 use Rattle.cell_model.specs.Library.{Library, cell_named, cell_of}
+use Rattle.cell_checks.specs.Arcs.{BeginsThere, GoesThrough}
 use Rattle.net_core.specs.Places.{Stands, IsThere, NoneTwice}
 use Rattle.net_core.specs.Netlist.{Instance, Netlist, pin_of, HasClass}
 use Rattle.delay_sta.specs.declared.graph.TimedArc.{TimedArc}
 use Rattle.delay_sta.specs.Loads.{load}
-use Rattle.delay_sta.specs.Paths.{Step, IsStepAt, BeginsThere, GoesThrough, IsStart, TakesTo, IsGreatest}
+use Rattle.delay_sta.specs.Paths.{Step, IsStepAt, IsStart, TakesTo, IsGreatest}
 
 -- the place of the cell of each model
 pub record AreFound (cells : List Cell) (models : List (List ℕ)) (places : List ℕ) : Type 0 where

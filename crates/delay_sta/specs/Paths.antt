@@ -3,13 +3,12 @@ use Rattle.std.specs.Prelude.{◌≡◌, ◌⊎◌, ℕ, ◌≤◌, false, List,
 use Rattle.std.specs.List.{sum_by}
 use Rattle.vlsi_base.specs.declared.name.Name.{Name}
 use Rattle.vlsi_base.specs.declared.name.Port.{Port}
-use Rattle.vlsi_base.specs.declared.name.Dir.{Dir}
 use Rattle.vlsi_base.specs.declared.name.Dir.TheVariants as dir
 use Rattle.vlsi_base.specs.Name.{is_supply}
 use Rattle.cell_model.specs.declared.cell.Arc.{Arc}
-use Rattle.cell_model.specs.declared.cell.Pin.{Pin}
-use Rattle.cell_model.specs.Cell.{Function, gate, flip_flop, other, opaque, Cell}
+use Rattle.cell_model.specs.Cell.{Function, flip_flop, Cell}
 use Rattle.cell_model.specs.Library.{Library, cell_of}
+use Rattle.cell_checks.specs.Arcs.{HasPin, BeginsThere, GoesThrough}
 use Rattle.net_core.specs.Places.{IsThere}
 use Rattle.net_core.specs.Netlist.{Instance, Netlist, port, pin_of, HasClass}
 use Rattle.delay_sta.specs.Arcs.{arc_delay}
@@ -34,27 +33,6 @@ pub record TakesTo (Starts : ℕ → Type 0) (Begins GoesOn : Step → Type 0) (
   pub path : List Step
   pub leads : Leads Starts Begins GoesOn class path
   pub sum : time ≡ sum_by (λ s. s.delay) path
-
--- a pin of this name and direction is among those of a cell
-pub record HasPin (pins : List Pin) (way : Dir) (name : Name) : Type 0 where
-  pub pin : Pin
-  pub listed : IsThere pins pin
-  pub named : pin.port.name ≡ name
-  pub is : pin.port.dir ≡ way
-
--- through a gate paths go on from each input
-abbrev pub GoesThrough : Function → Name → Type 0
-GoesThrough (gate e) pin = Unit {0}
-GoesThrough (flip_flop data_pin clock_pin) pin = ⊥
-GoesThrough (other machine) pin = ⊥
-GoesThrough opaque pin = ⊥
-
--- at a flip-flop paths begin, with the arc from its clock
-abbrev pub BeginsThere : Function → Name → Type 0
-BeginsThere (gate e) pin = ⊥
-BeginsThere (flip_flop data_pin clock_pin) pin = pin ≡ clock_pin
-BeginsThere (other machine) pin = ⊥
-BeginsThere opaque pin = ⊥
 
 -- An arc of a cell is a step at the instance of this name, where classes have these loads: it leads from an input pin to an output
 -- pin, and what the cell is allows it.

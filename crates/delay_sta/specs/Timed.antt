@@ -3,6 +3,7 @@ use Rattle.std.specs.Prelude.{◌≡◌, ◌↔◌, ℕ, ◌^◌, ◌<◌, Bool,
 use Rattle.std.specs.List.{All}
 use Rattle.cell_model.specs.Cell.{Cell}
 use Rattle.cell_model.specs.Library.{Library, cell_of, IsUsable}
+use Rattle.cell_checks.specs.Arcs.{BeginsThere, GoesThrough}
 use Rattle.cell_pins.specs.Table.{IsTableOf}
 use Rattle.net_core.specs.declared.pins.ModelPins.{ModelPins}
 use Rattle.net_core.specs.Places.{Stands, IsThere, NoneTwice}
@@ -11,7 +12,7 @@ use Rattle.net_core.specs.Checks.{Fits, Passes}
 use Rattle.delay_sta.specs.declared.arrivals.Delays.{Delays}
 use Rattle.delay_sta.specs.Loads.{capacitances, load}
 use Rattle.delay_sta.specs.Graph.{AreFound, AreStartsOf, AreArcsOf, AreReached}
-use Rattle.delay_sta.specs.Paths.{Step, IsStep, BeginsThere, GoesThrough, Arrives, IsEnd, IsGreatest}
+use Rattle.delay_sta.specs.Paths.{Step, IsStep, Arrives, IsEnd, IsGreatest}
 
 -- The netlist has passed its checks with the pins of the library's cells, all listed or the usable ones alone, and each of its models
 -- is a usable cell.

@@ -9,7 +9,7 @@ ghost use Rattle.delay_sta.specs.Arcs.{arc_delay};
 ghost use Rattle.delay_sta.specs.Loads.{input_capacitance};
 ghost use Rattle.delay_sta.specs.Graph.{AreFound, group_of};
 ghost use Rattle.delay_sta.specs.Timed.{CanBeTimed, AreDelaysOf};
-ghost use Rattle.delay_sta.specs.Exchanged.{HaveTheirArcs, IsExchangeAt, IsSetTo};
+ghost use Rattle.delay_sta.specs.Exchanged.{IsExchangeAt, IsSetTo};
 ghost use Rattle.delay_sta.specs.Changes.{pin_load, ArePinClasses, AreLoads, IsOnlyArc, IsPlaced, AreRetimed};
 
 use crate::arc::arc_delay;
@@ -169,7 +169,6 @@ fn change_loads(
     places: (usize, usize),
 )
     requires timed { CanBeTimed library.now netlist.now }
-    requires arcs { HaveTheirArcs library.now }
     requires loads { AreLoads netlist.now library.now loads.old }
     requires exchange { IsExchangeAt library.now netlist.now number places.1 }
     requires was { (x : IsExchangeAt library.now netlist.now number places.1) → Stands library.now.cells places.0 x.was }
@@ -189,7 +188,6 @@ impl Delays {
     pub fn exchange(&mut self, netlist: &mut Netlist, library: &Library, number: u32, place: usize)
         requires sound { IsNetlist netlist.old }
         requires timed { CanBeTimed library.now netlist.old }
-        requires arcs { HaveTheirArcs library.now }
         requires delays { AreDelaysOf netlist.old library.now self.old }
         requires exchange { IsExchangeAt library.now netlist.old number place }
         ensures sound { IsNetlist netlist.new }

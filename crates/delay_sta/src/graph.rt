@@ -2,10 +2,10 @@
 ghost use Rattle.std.specs.Prelude.{◌≡◌, ◌↔◌, ◌<◌, ℕ, [], length, slice_index, IsTrue, IfOk, OnOk, IfSome};
 ghost use Rattle.std.specs.List.{All};
 ghost use Rattle.cell_model.specs.View.{function_view};
+ghost use Rattle.cell_checks.specs.Arcs.{HasPin};
 ghost use Rattle.net_core.specs.Places.{Stands, IsPlaceOf};
 ghost use Rattle.net_core.specs.Netlist.{Instance, IsNetlist, pin_of, HasClass, IsClassOf};
 ghost use Rattle.delay_sta.specs.Loads.{load};
-ghost use Rattle.delay_sta.specs.Paths.{HasPin};
 ghost use Rattle.delay_sta.specs.Graph.{AreFound, IsWay, IsFoundAs, IsShort, AddsArcs, AreTimedArcs, AreGrouped, AreOnward};
 
 use crate::arc::arc_delay;

@@ -2,7 +2,6 @@
 ghost use Rattle.std.specs.Prelude.{◌≤◌, IfOk, length};
 ghost use Rattle.machine_core.specs.Size.{machine_size as size_of};
 ghost use Rattle.source_checks.specs.Checks.{most_ports};
-ghost use Rattle.delay_sta.specs.Exchanged.{HaveTheirArcs};
 ghost use Rattle.boog_map.specs.Netlist.{Covers};
 ghost use Rattle.tool_drive.specs.declared.size.TheConstants.{MOST_SIZE};
 ghost use Rattle.flow_netlist.specs.Netlist.{IsDrivenNetlist};
@@ -17,8 +16,7 @@ use std::alloc::{AllocError, Global};
 
 /// A netlist of the library's cells for a machine that is small enough and that they cover, with buffers where a net had more than
 /// `fanout` sinks, or 4 where that is less, and with drives that no single exchange makes faster. A library that covers a machine has
-/// an inverter, so nothing stands in the way of buffers. Each usable cell must have its arcs, as those of a library that is read have.
-/// Takes memory for graph and netlist, and what `drive_netlist` takes.
+/// an inverter, so nothing stands in the way of buffers. Takes memory for graph and netlist, and what `drive_netlist` takes.
 pub fn driven_netlist_of(
     alloc: Global,
     machine: &Machine,
@@ -26,7 +24,6 @@ pub fn driven_netlist_of(
     fanout: u32,
 ) -> Result<Driven, AllocError>
     requires ports { length machine.now.ports ≤ most_ports }
-    requires arcs { HaveTheirArcs library.now }
     requires small { size_of machine.now ≤ MOST_SIZE }
     requires covered { Covers library.now machine.now }
     ensures { IfOk result (λ d. IsDrivenNetlist library.now machine.now fanout d.netlist d.delay) }

@@ -4,7 +4,6 @@ ghost use Rattle.machine_core.specs.Size.{machine_size};
 ghost use Rattle.source_checks.specs.Checks.{most_ports};
 ghost use Rattle.boog_map.specs.Netlist.{Covers};
 ghost use Rattle.boom_run.specs.Boom.{IsBudgetStatus};
-ghost use Rattle.delay_sta.specs.Exchanged.{HaveTheirArcs};
 ghost use Rattle.tool_drive.specs.Outside.{outside, IsLine};
 ghost use Rattle.tool_drive.specs.Status.{has_line};
 ghost use Rattle.tool_drive.specs.Lines.{line_of};
@@ -32,7 +31,6 @@ use machine_core::Machine;
 use std::alloc::{AllocError, Global};
 use syf_run::{Encoded, encoded_law, encoded_machine, style_of};
 use tool_drive::{Product, Refusal, Status, Tool, Wanted, bytes_at, check_size, drive, refused};
-use tool_run::loon_law;
 use vbe_io::read_vbe;
 use vbe_laws::source_has_few_names;
 use vlsi_base::{FileBytes, ReadError};
@@ -159,7 +157,6 @@ fn netlist_within(
     command: &FlowCommand,
 ) -> Result<Mapped, Status>
     requires ports { length machine.now.ports ≤ most_ports }
-    requires arcs { HaveTheirArcs library.now }
     requires small { machine_size machine.now ≤ MOST_SIZE }
     requires covered { Covers library.now machine.now }
     requires few { length machine.now.vars + length machine.now.ports + machine_size machine.now < 2 ^ 32 - 1 }
@@ -197,7 +194,6 @@ fn laid_out(
     library_law();
     netlist_law();
     driven_netlist_law();
-    loon_law();
     source_has_few_names();
     encoded_law();
     let read = match read_all(alloc, command, source, catal, cells) {

@@ -11,6 +11,7 @@ use Rattle.vlsi_base.specs.declared.name.Port.{Port}
 use Rattle.vlsi_base.specs.declared.name.Terminal.{Terminal}
 use Rattle.cell_model.specs.Cell.{Function, gate, flip_flop, other, opaque, Cell}
 use Rattle.cell_model.specs.Library.{Library, cell_of}
+use Rattle.cell_checks.specs.Arcs.{BeginsThere, GoesThrough}
 use Rattle.net_core.specs.Places.{Stands, IsThere}
 use Rattle.net_core.specs.Netlist.{Instance, Netlist, port, pin_of, pins_of, terminals, HasClass}
 use Rattle.net_core.proofs.Standing.{stands_right, stands_same}
@@ -19,7 +20,7 @@ use Rattle.net_core.proofs.Changing.{terminals_set}
 use Rattle.net_theory.specs.Exchanges.{IsSameFunction}
 use Rattle.delay_sta.specs.Arcs.{arc_delay}
 use Rattle.delay_sta.specs.Loads.{share, load}
-use Rattle.delay_sta.specs.Paths.{Step, Leads, starts, begins, goes_on, TakesTo, IsStep, BeginsThere, GoesThrough, IsStart, IsEnd, at_port, at_data, IsWorst}
+use Rattle.delay_sta.specs.Paths.{Step, Leads, starts, begins, goes_on, TakesTo, IsStep, IsStart, IsEnd, at_port, at_data, IsWorst}
 use Rattle.delay_sta.proofs.Finding.{instance_capacitances}
 use Rattle.loon_buffer.specs.Drives.{IsAt, OthersDoNotHelp}
 

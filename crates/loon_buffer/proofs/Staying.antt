@@ -10,6 +10,7 @@ use Rattle.cell_model.specs.declared.cell.Arc.{Arc}
 use Rattle.cell_model.specs.declared.cell.Pin.{Pin}
 use Rattle.cell_model.specs.Cell.{Function, gate, flip_flop, other, opaque, Cell, pin_ports}
 use Rattle.cell_model.specs.Library.{Library, cell_of}
+use Rattle.cell_checks.specs.Arcs.{HasPin, BeginsThere, GoesThrough, HasItsArcs}
 use Rattle.net_core.specs.Places.{Stands}
 use Rattle.net_core.specs.Netlist.{Instance, Netlist, pin_of, HasClass}
 use Rattle.net_core.proofs.Standing.{stands_same}
@@ -17,8 +18,7 @@ use Rattle.net_core.proofs.Frames.{mapped, unmapped}
 use Rattle.net_theory.specs.Exchanges.{IsSameFunction, IsDrive}
 use Rattle.delay_sta.specs.Arcs.{arc_delay}
 use Rattle.delay_sta.specs.Loads.{load}
-use Rattle.delay_sta.specs.Paths.{Step, Leads, starts, begins, goes_on, TakesTo, HasPin, IsStepAt, IsStep, BeginsThere, GoesThrough, IsStart, IsEnd, IsWorst}
-use Rattle.delay_sta.specs.Exchanged.{HasItsArcs}
+use Rattle.delay_sta.specs.Paths.{Step, Leads, starts, begins, goes_on, TakesTo, IsStepAt, IsStep, IsStart, IsEnd, IsWorst}
 use Rattle.loon_buffer.specs.Drives.{StandFor, no_steps, one_step, PathsStay, StepsStay}
 use Rattle.loon_buffer.proofs.Exchanging.{with_model, changed, has_kept, stands_other, stands_set, start_kept, end_kept}
 use Rattle.loon_buffer.proofs.Keeping.{apart_of}

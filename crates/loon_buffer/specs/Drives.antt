@@ -8,12 +8,12 @@ use Rattle.bool_expr.specs.Expression.{Expression, bit, val, IsOver}
 use Rattle.cell_model.specs.declared.cell.Arc.{Arc}
 use Rattle.cell_model.specs.Cell.{Cell, Function, gate}
 use Rattle.cell_model.specs.Library.{Library, cell_of, IsUsable}
+use Rattle.cell_checks.specs.Arcs.{BeginsThere, GoesThrough, HaveTheirArcs}
 use Rattle.net_core.specs.Places.{Stands, IsThere}
 use Rattle.net_core.specs.Netlist.{Instance, Netlist, pin_of, HasClass, SetsModel}
 use Rattle.net_theory.specs.Exchanges.{IsDrive}
 use Rattle.delay_sta.specs.Timed.{CanBeTimed}
-use Rattle.delay_sta.specs.Paths.{Step, TakesTo, BeginsThere, GoesThrough, IsStep, IsStart, IsEnd, IsWorst}
-use Rattle.delay_sta.specs.Exchanged.{HaveTheirArcs}
+use Rattle.delay_sta.specs.Paths.{Step, TakesTo, IsStep, IsStart, IsEnd, IsWorst}
 
 -- two vectors have the same bits from this place up to the sixth
 abbrev pub Agrees : List Bool → List Bool → ℕ → Type 0

@@ -6,7 +6,6 @@ ghost use Rattle.net_core.specs.Netlist.{Instance, IsNetlist};
 ghost use Rattle.delay_sta.specs.Graph.{AreFound};
 ghost use Rattle.delay_sta.specs.Paths.{IsWorst};
 ghost use Rattle.delay_sta.specs.Timed.{CanBeTimed, AreDelaysOf};
-ghost use Rattle.delay_sta.specs.Exchanged.{HaveTheirArcs};
 ghost use Rattle.loon_buffer.specs.Drives.{IsDriveTable, HasDrives, OnlyExchanges, IsDriven};
 ghost use Rattle.loon_buffer.specs.Choices.{IsReady, HasMarkedPin, IsDriveAt, IsShorter, Shortens, DoesNotHelp, IsDrivenAt};
 
@@ -49,7 +48,6 @@ fn try_exchange(
     number: u32,
     place: usize,
 ) -> bool
-    requires arcs { HaveTheirArcs library.now }
     requires ready { IsReady library.now netlist.old delays.old }
     requires drive { IsDriveAt library.now netlist.old number place }
     ensures ready { IsReady library.now netlist.new delays.new }
@@ -80,7 +78,6 @@ fn exchange_cell(
 ) -> bool
     requires there { number < length netlist.old.instances }
     requires table { IsDriveTable library.now.cells table.now.drives.items }
-    requires arcs { HaveTheirArcs library.now }
     requires ready { IsReady library.now netlist.old delays.old }
     ensures ready { IsReady library.now netlist.new delays.new }
     ensures marks { delays.new.marks ≡ delays.old.marks }
@@ -103,7 +100,6 @@ fn exchange_cell(
 /// whether one does.
 fn pass(netlist: &mut Netlist, table: &DriveTable, library: &Library, delays: &mut Delays) -> bool
     requires table { IsDriveTable library.now.cells table.now.drives.items }
-    requires arcs { HaveTheirArcs library.now }
     requires ready { IsReady library.now netlist.old delays.old }
     ensures ready { IsReady library.now netlist.new delays.new }
     ensures chosen { OnlyExchanges library.now netlist.old netlist.new }
@@ -138,7 +134,6 @@ pub fn choose_drives(
     requires table { IsDriveTable library.now.cells table.now.drives.items }
     requires timed { CanBeTimed library.now netlist.old }
     requires models { HasDrives library.now netlist.old }
-    requires arcs { HaveTheirArcs library.now }
     requires delays { AreDelaysOf netlist.old library.now delays.old }
     ensures sound { IsNetlist netlist.new }
     ensures chosen { OnlyExchanges library.now netlist.old netlist.new }

@@ -3,7 +3,6 @@ ghost use Rattle.std.specs.Prelude.{◌≡◌, ◌≤◌, ℕ, IfOk, IfErr, OnOk
 ghost use Rattle.net_core.specs.Netlist.{IsNetlist, ReservesModels};
 ghost use Rattle.delay_sta.specs.Paths.{IsWorst};
 ghost use Rattle.delay_sta.specs.Timed.{CanBeTimed};
-ghost use Rattle.delay_sta.specs.Exchanged.{HaveTheirArcs};
 ghost use Rattle.loon_buffer.specs.Drives.{HasDrives, OnlyExchanges, IsDriven};
 ghost use Rattle.loon_fanout.specs.Limited.{HasFanout, HasFewGates, IsOfCells, HasRoomForGates, StaysRight, IsBufferRefusal};
 ghost use Rattle.loon_fanout.specs.Laws.{IsTied};
@@ -49,7 +48,6 @@ fn reserve(alloc: Global, netlist: &mut Netlist, library: &Library) -> Result<()
 fn exchanged(alloc: Global, mut netlist: Netlist, library: &Library) -> Result<Driven, AllocError>
     requires timed { CanBeTimed library.now netlist }
     requires drives { HasDrives library.now netlist }
-    requires arcs { HaveTheirArcs library.now }
     ensures sound { IfOk result (λ d. IsNetlist d.netlist) }
     ensures exchanged { IfOk result (λ d. OnlyExchanges library.now netlist d.netlist) }
     ensures timed { IfOk result (λ d. CanBeTimed library.now d.netlist) }
@@ -83,7 +81,6 @@ pub fn drive_netlist(
     requires tied { IsTied netlist.now }
     requires timed { CanBeTimed library.now netlist.now }
     requires room { HasRoomForGates netlist.now }
-    requires arcs { HaveTheirArcs library.now }
     ensures driven { IfOk result (λ d. IsDrivenFrom netlist.now library.now fanout d.netlist d.delay) }
     ensures sound { IfOk result (λ d. IsNetlist d.netlist) }
     ensures cells { IfOk result (λ d. IsOfCells d.netlist library.now) }

@@ -1,4 +1,3 @@
-mod Arcs
 mod Lists
 mod Numbered
 mod Refusing

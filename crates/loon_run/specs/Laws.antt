@@ -1,5 +1,5 @@
 -- What holds of a library and of a netlist that `loon` reads, and of what it writes.
-use Rattle.std.specs.Prelude.{ℕ, Bool, false, List}
+use Rattle.std.specs.Prelude.{ℕ, false, List}
 use Rattle.cell_model.specs.Library.{Library}
 use Rattle.cell_lib.specs.Library.{IsLibraryOf}
 use Rattle.cell_pins.specs.Table.{IsTableOf}
@@ -10,15 +10,10 @@ use Rattle.net_core.specs.Checks.{Fits, IsPinTable}
 use Rattle.net_right.specs.Condition.{MeetsCondition}
 use Rattle.net_right.specs.Writable.{CanBeNamed, PinsCanBeWritten}
 use Rattle.delay_sta.specs.Timed.{CanBeTimed}
-use Rattle.delay_sta.specs.Exchanged.{HaveTheirArcs}
 use Rattle.loon_fanout.specs.Limited.{IsOfCells}
 use Rattle.loon_fanout.specs.Laws.{IsTied}
 use Rattle.vst_io.specs.Text.{IsVst}
 use Rattle.loon_run.specs.Loon.{IsMade}
-
--- each usable cell of a library that is read has its arcs
-abbrev pub LibraryHasArcs : Type 0
-LibraryHasArcs = (tracks : Bool) (catal : List ℕ) (files : List (List ℕ)) (l : Library) → IsLibraryOf tracks catal files l → HaveTheirArcs l
 
 -- each instance has a usable cell of the library, and its pins
 abbrev pub HasUsableCells : Library → Netlist → Type 0

@@ -1,15 +1,14 @@
 // Laws: what holds of what is read and written. They cost nothing when they are called.
-ghost use Rattle.loon_run.specs.Laws.{LibraryHasArcs, NetlistIsDrivable, DrivenIsWritable};
+ghost use Rattle.loon_run.specs.Laws.{NetlistIsDrivable, DrivenIsWritable};
 
 use cell_lib::library_law;
 use loon_fanout::limited_law;
 use vbe_writable::catal_is_named;
 use vst_laws::netlist_words_law;
 
-/// The usable cells of a library that is read have their arcs; a netlist that is read with their pins is of them, and can get buffers
-/// and drives; and what is made of it can be written.
+/// A netlist that is read with the pins of a library's usable cells is of them, and can get buffers and drives; and what is made of it
+/// can be written.
 pub fn loon_law()
-    ensures arcs { LibraryHasArcs }
     ensures drivable { NetlistIsDrivable }
     ensures writable { DrivenIsWritable }
 {

@@ -1,7 +1,6 @@
 // `loon` as a tool: what it reads, and what it answers.
 ghost use Rattle.std.specs.Prelude.{◌≡◌, ◌^◌, ◌<◌, ◌≤◌, OnOk, IfOk, IfErr, length};
 ghost use Rattle.net_core.specs.Netlist.{IsNetlist, terminals};
-ghost use Rattle.delay_sta.specs.Exchanged.{HaveTheirArcs};
 ghost use Rattle.loon_fanout.specs.Limited.{StaysRight, IsBufferRefusal};
 ghost use Rattle.loon_drive.specs.Driven.{most_sinks};
 ghost use Rattle.tool_drive.specs.Refusals.{MemoryOr};
@@ -61,7 +60,6 @@ fn driven(
     fanout: u32,
 ) -> Result<Driven, BufferError>
     requires drivable { IsDrivable library.now netlist }
-    requires arcs { HaveTheirArcs library.now }
     requires room { HasRoom netlist }
     ensures sound { IfOk result (λ d. IsNetlist d.netlist) }
     ensures made { IfOk result (λ d. IsMade netlist library.now fanout d.netlist d.delay) }

@@ -22,6 +22,7 @@ plain_library l h = record {
   formed = h.formed;
   passes = λ k d low. passes_without_tracks true _ (h.passes k d low);
   names = h.names;
+  arcs = h.arcs;
 }
 
 module _ (l : Library) (model : List ℕ) (c : Cell) (passed : HasPassed false l) (found : cell_named l.cells model ≡ Some c) where

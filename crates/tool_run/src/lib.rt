@@ -9,7 +9,6 @@ mod run;
 mod usage;
 mod words;
 
-pub use loon_run::loon_law;
 pub use run::run_tool;
 pub use tool_drive::{FileCause, Kind, LibraryFault, Status, Verdict};
 pub use usage::refuse_words;

@@ -37,7 +37,7 @@ take_loads-requires-clause-had c =
     let old_are : c.as_slice.result.now ≡ c.requires.exchange.was.pins =
     c.as_slice.ensures ∙ ap (λ (d : Cell). d.pins) (sym c.index-cells-old.is ∙ at_index c.cells-cells.result.now c.args.places.0 c.index-cells-old.result c.requires.exchange.was c.index-cells-old.is
     (cells_stand c.args.library.now c.cells-cells.result.now c.args.places.0 c.requires.exchange.was c.cells-cells.ensures.value (c.requires.was c.requires.exchange))) in
-    old_had c.args.library.now c.args.netlist.now c.args.number c.args.places.1 c.requires.exchange c.requires.timed c.requires.arcs c.pin_classes-classes.result.now c.pin_classes-classes.ensures.classes c.args.loads.now c.requires.loads c.as_slice-names.result.now c.as_slice.result.now names_are old_are
+    old_had c.args.library.now c.args.netlist.now c.args.number c.args.places.1 c.requires.exchange c.requires.timed c.cells-cells.ensures.checked.arcs c.pin_classes-classes.result.now c.pin_classes-classes.ensures.classes c.args.loads.now c.requires.loads c.as_slice-names.result.now c.as_slice.result.now names_are old_are
 
 pub give_loads-requires-clause-each : goal.give_loads-requires-clause-each
 give_loads-requires-clause-each c =
@@ -54,7 +54,7 @@ give_loads-requires-clause-room c =
     let old_are : c.as_slice.result.now ≡ c.requires.exchange.was.pins =
     c.as_slice.ensures ∙ ap (λ (d : Cell). d.pins) (sym c.index-cells-old.is ∙ at_index c.cells-cells.result.now c.args.places.0 c.index-cells-old.result c.requires.exchange.was c.index-cells-old.is
     (cells_stand c.args.library.now c.cells-cells.result.now c.args.places.0 c.requires.exchange.was c.cells-cells.ensures.value (c.requires.was c.requires.exchange))) in
-    new_room c.args.library.now c.args.netlist.now c.args.number c.args.places.1 c.requires.exchange c.requires.timed c.requires.arcs c.pin_classes-classes.result.now c.pin_classes-classes.ensures.classes c.args.loads.now c.requires.loads c.as_slice-names.result.now c.as_slice.result.now names_are old_are c.take_loads.new.loads c.take_loads.ensures.many c.take_loads.ensures.each c.pin_classes-classes.ensures.few
+    new_room c.args.library.now c.args.netlist.now c.args.number c.args.places.1 c.requires.exchange c.requires.timed c.cells-cells.ensures.checked.arcs c.pin_classes-classes.result.now c.pin_classes-classes.ensures.classes c.args.loads.now c.requires.loads c.as_slice-names.result.now c.as_slice.result.now names_are old_are c.take_loads.new.loads c.take_loads.ensures.many c.take_loads.ensures.each c.pin_classes-classes.ensures.few
 
 pub returns : goal.returns
 returns c =
@@ -67,5 +67,5 @@ returns c =
     let new_are : c.as_slice-2.result.now ≡ c.requires.exchange.now.pins =
     c.as_slice-2.ensures ∙ ap (λ (d : Cell). d.pins) (sym c.index-cells-new.is ∙ at_index c.cells-cells.result.now c.args.places.1 c.index-cells-new.result c.requires.exchange.now c.index-cells-new.is
     (cells_stand c.args.library.now c.cells-cells.result.now c.args.places.1 c.requires.exchange.now c.cells-cells.ensures.value c.requires.exchange.there)) in
-    now_loads c.args.library.now c.args.netlist.now c.args.number c.args.places.1 c.requires.exchange c.requires.timed c.requires.arcs c.pin_classes-classes.result.now c.pin_classes-classes.ensures.classes c.args.loads.now c.requires.loads c.as_slice-names.result.now c.as_slice.result.now names_are old_are c.as_slice-2.result.now new_are c.take_loads.new.loads c.take_loads.ensures.many c.take_loads.ensures.each
+    now_loads c.args.library.now c.args.netlist.now c.args.number c.args.places.1 c.requires.exchange c.requires.timed c.cells-cells.ensures.checked.arcs c.pin_classes-classes.result.now c.pin_classes-classes.ensures.classes c.args.loads.now c.requires.loads c.as_slice-names.result.now c.as_slice.result.now names_are old_are c.as_slice-2.result.now new_are c.take_loads.new.loads c.take_loads.ensures.many c.take_loads.ensures.each
     c.give_loads.new.loads c.give_loads.ensures.many c.give_loads.ensures.each c.give_loads.ensures.short

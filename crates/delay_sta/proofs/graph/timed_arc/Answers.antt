@@ -3,10 +3,10 @@ use Rattle.std.specs.Prelude.{slice_index}
 use Rattle.vlsi_base.specs.declared.name.Dir.TheVariants as dir
 use Rattle.cell_model.specs.declared.cell.Pin.{Pin}
 use Rattle.cell_model.specs.Cell.{Function}
+use Rattle.cell_checks.specs.Arcs.{HasPin}
 use Rattle.net_core.specs.Frame.{instance_of}
 use Rattle.net_core.specs.Netlist.{pin_of}
 use Rattle.net_core.proofs.Rings.{class_below}
-use Rattle.delay_sta.specs.Paths.{HasPin}
 use Rattle.delay_sta.specs.Graph.{IsWay}
 use Rattle.delay_sta.proofs.Exact.{exactly}
 use Rattle.delay_sta.proofs.Placing.{AreNodesOf, instance_read, placed}

@@ -1,4 +1,4 @@
-use Rattle.std.proofs.Common.{true, Err, sym, subst}
+use Rattle.std.proofs.Common.{Err, sym, subst}
 use Rattle.tool_drive.specs.declared.tool.Refusal.{Refusal}
 use Rattle.tool_drive.specs.Table.{IsJudged}
 use Rattle.flow_run.specs.View.{origin_view}
@@ -13,7 +13,6 @@ netlist_within-mapped-requires c = record {
       (origin_view c.in-Ok.read.source.origin) c.in-Ok.read.source.machine c.in-Ok.ensures.read.machine).few_ports;
   small = c.in-Ok.ensures.read.small;
   covered = c.in-Ok-check_kinds.ensures.covered;
-  arcs = c.loon_law.ensures.arcs true c.args.catal.now c.args.cells.now c.in-Ok.read.library c.in-Ok.ensures.read.library;
   few = few_names c.source_has_few_names.ensures c.args.command.now c.args.source.now c.args.catal.now c.args.cells.now
       (origin_view c.in-Ok.read.source.origin) c.in-Ok.read.source.machine c.in-Ok.read.library c.in-Ok.ensures.read;
 }

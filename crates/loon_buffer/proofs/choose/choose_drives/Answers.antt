@@ -12,9 +12,6 @@ loop-init c = choosing_start c.args.library.now c.args.netlist.now c.args.delays
 pub pass-requires-clause-table : goal.pass-requires-clause-table
 pass-requires-clause-table c = c.requires.table
 
-pub pass-requires-clause-arcs : goal.pass-requires-clause-arcs
-pass-requires-clause-arcs c = c.requires.arcs
-
 pub pass-requires-clause-ready : goal.pass-requires-clause-ready
 pass-requires-clause-ready c = c.loop.invariant.ready
 

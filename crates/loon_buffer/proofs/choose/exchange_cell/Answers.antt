@@ -19,9 +19,6 @@ cell_place-own-requires-clause-each c = c.requires.ready.delays.places.many
 pub loop-drive-init : goal.loop-drive-init
 loop-drive-init c = record { kept = refl; marks = refl; ready = c.requires.ready; idle = λ j l. absurd (omega (arith, l)) }
 
-pub try_exchange-requires-clause-arcs : goal.try_exchange-requires-clause-arcs
-try_exchange-requires-clause-arcs c = c.requires.arcs
-
 pub try_exchange-requires-clause-ready : goal.try_exchange-requires-clause-ready
 try_exchange-requires-clause-ready c = c.loop-drive.invariant.ready
 

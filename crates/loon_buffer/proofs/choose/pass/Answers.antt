@@ -39,9 +39,6 @@ exchange_cell-requires-clause-there c =
 pub exchange_cell-requires-clause-table : goal.exchange_cell-requires-clause-table
 exchange_cell-requires-clause-table c = c.requires.table
 
-pub exchange_cell-requires-clause-arcs : goal.exchange_cell-requires-clause-arcs
-exchange_cell-requires-clause-arcs c = c.requires.arcs
-
 pub exchange_cell-requires-clause-ready : goal.exchange_cell-requires-clause-ready
 exchange_cell-requires-clause-ready c = c.loop-k.invariant.ready
 

@@ -18,9 +18,6 @@ exchange-requires-clause-sound c = c.requires.ready.sound
 pub exchange-requires-clause-timed : goal.exchange-requires-clause-timed
 exchange-requires-clause-timed c = c.requires.ready.timed
 
-pub exchange-requires-clause-arcs : goal.exchange-requires-clause-arcs
-exchange-requires-clause-arcs c = c.requires.arcs
-
 pub exchange-requires-clause-delays : goal.exchange-requires-clause-delays
 exchange-requires-clause-delays c = c.requires.ready.delays
 
@@ -56,9 +53,6 @@ pub exchange-requires-2-clause-timed : goal.exchange-requires-2-clause-timed
 exchange-requires-2-clause-timed c =
     (ready_after c.args.library.now c.args.netlist.now c.exchange.new.netlist c.args.delays.now c.exchange.new.self c.requires.ready
     (is_exchange c.args.library.now c.args.netlist.now c.exchange.new.netlist c.args.number c.args.place c.requires.drive c.exchange.ensures.sets) c.exchange.ensures.sound c.exchange.ensures.delays).timed
-
-pub exchange-requires-2-clause-arcs : goal.exchange-requires-2-clause-arcs
-exchange-requires-2-clause-arcs c = c.requires.arcs
 
 pub exchange-requires-2-clause-delays : goal.exchange-requires-2-clause-delays
 exchange-requires-2-clause-delays c = c.exchange.ensures.delays

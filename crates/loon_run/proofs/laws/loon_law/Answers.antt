@@ -1,9 +1,5 @@
-use Rattle.loon_run.proofs.Arcs.{library_has_arcs}
 use Rattle.loon_run.proofs.Writing.{netlist_is_drivable, driven_is_writable}
 use Rattle.loon_run.proofs.laws.loon_law.Goals as goal
-
-pub returns-clause-arcs : goal.returns-clause-arcs
-returns-clause-arcs c = library_has_arcs
 
 pub returns-clause-drivable : goal.returns-clause-drivable
 returns-clause-drivable c = netlist_is_drivable c.library_law.ensures.passes

@@ -28,9 +28,6 @@ driven-requires-clause-drivable c =
     c.loon_law.ensures.drivable c.args.catal.now c.args.cells.now c.in-Ok.library c.in_ok-table.table c.in-Ok-read_vst.netlist c.in-Ok.ensures.ok c.in_ok-table.ensures.table
     c.in-Ok-read_vst.ensures.accepted.netlist.sound (c.in-Ok-read_vst.ensures.condition (lists_supplies c.in-Ok.library false c.in_ok-table.table c.in_ok-table.ensures.table))
 
-pub driven-requires-clause-arcs : goal.driven-requires-clause-arcs
-driven-requires-clause-arcs c = c.loon_law.ensures.arcs false c.args.catal.now c.args.cells.now c.in-Ok.library c.in-Ok.ensures.ok
-
 pub returns-in-Err-driven : goal.returns-in-Err-driven
 returns-in-Err-driven c =
     subst (λ (r : Refusal). IsJudged (Limits c.args.command.now c.args.source.now c.args.catal.now c.args.cells.now) (Err r)) (sym c.plain-in-Err-driven.ensures)

@@ -1,15 +1,16 @@
 -- Each usable cell of a library that is read has its arcs.
-use Rattle.std.proofs.Common.{◌≡◌, ◌⊎◌, inl, inr, ℕ, zero, suc, Bool, true, false, cond, List, [], ◌∷◌, map, length, Option, None, Some, refl, sym, ap, ◌∙◌, subst, arith}
-use Rattle.std.specs.Prelude.{IsTrue, nat_eq, if◌then◌else◌}
+use Rattle.std.proofs.Common.{◌≡◌, ◌⊎◌, inl, inr, ℕ, zero, suc, Bool, true, false, cond, List, [], ◌∷◌, map, length, get_or, Option, None, Some, refl, sym, ap, ◌∙◌, subst, arith}
+use Rattle.std.specs.Prelude.{nat_eq, slice_get, if◌then◌else◌}
+use Rattle.std.proofs.lemmas.Option.{slice_get_within, slice_get-get_or, get_or_from_slice_get}
 use Rattle.vlsi_base.specs.declared.name.Name.{Name}
 use Rattle.vlsi_base.specs.declared.name.Port.{Port}
 use Rattle.vlsi_base.specs.declared.name.Dir.{Dir}
 use Rattle.vlsi_base.specs.declared.name.Dir.TheVariants as dir
-use Rattle.vlsi_base.specs.Member.{In, here, there}
-use Rattle.vlsi_base.specs.Names.{comes_before}
-use Rattle.machine_core.specs.Machine.{is_input}
+use Rattle.vlsi_base.specs.Member.{In, here, there, AllDifferent}
+use Rattle.machine_core.specs.Machine.{is_input, names_of}
 use Rattle.machine_core.specs.Named.{is_same_name, is_same_text}
 use Rattle.machine_core.proofs.Names.{same_name-itself}
+use Rattle.vlsi_model.proofs.Members.{In-cases}
 use Rattle.vbe_io.specs.declared.cell_text.GenericValue.{GenericValue}
 use Rattle.vbe_io.specs.declared.cell_text.CellText.{CellText}
 use Rattle.cell_model.specs.declared.function.Function.{Function as Parts}
@@ -19,19 +20,21 @@ use Rattle.cell_model.specs.declared.cell.Pin.{Pin}
 use Rattle.cell_model.specs.View.{function_view}
 use Rattle.cell_model.specs.Cell.{Cell, Function, gate, flip_flop, other, opaque, pin_ports, cell_outputs}
 use Rattle.cell_model.specs.Library.{cell_named, IsUsable, IsPlain}
-use Rattle.cell_model.proofs.Members.{In-map}
+use Rattle.cell_model.proofs.Members.{In-at, In-map, place-In}
 use Rattle.cell_function.specs.Row.{first, only_output, output_names}
-use Rattle.cell_function.specs.Timing.{pin_of, arc_of, begins_arc, arcs_to, arcs_of}
-use Rattle.cell_pins.proofs.Ports.{Sorted, sorted_of, before_itself}
-use Rattle.cell_lib.specs.Cells.{Source, sources, AreCells, none, next}
-use Rattle.cell_lib.specs.Library.{IsCell, DoesAs}
-use Rattle.net_core.specs.Places.{Stands}
-use Rattle.delay_sta.specs.Paths.{HasPin}
-use Rattle.delay_sta.specs.Exchanged.{Begins, HasItsArcs}
-use Rattle.loon_run.specs.Laws.{LibraryHasArcs}
-use Rattle.loon_run.proofs.Lists.{stands_in, in_stands, in_cases}
+use Rattle.cell_function.specs.Timing.{arc_of, begins_arc, arcs_to, arcs_of}
+use Rattle.cell_checks.specs.Arcs.{HasPin, Begins, HasItsArcs}
+use Rattle.cell_lib.specs.Cells.{Source}
+use Rattle.cell_lib.specs.Library.{IsSaid, DoesAs}
+use Rattle.cell_lib.proofs.Forming.{ports_are, pins_different}
 
 -- ---- lists
+
+at_place : {A : Type 0} (xs : List A) (k : ℕ) (x : A) → slice_get xs k ≡ Some x → In x xs
+at_place xs k x h = subst (λ y. In y xs) (get_or_from_slice_get xs k x x h) (In-at xs k x (slice_get_within xs k x h))
+
+some_place : {A : Type 0} (xs : List A) (x : A) → In x xs → (k : ℕ) × (slice_get xs k ≡ Some x)
+some_place xs x i = let r = place-In x xs i in (r.0, slice_get-get_or xs r.0 x r.1 ∙ ap Some (r.2 x))
 
 one_of : {A : Type 0} (xs : List A) → length xs ≡ 1 → (x : A) × (xs ≡ x ∷ [])
 one_of [] h = absurd cc
@@ -47,7 +50,7 @@ only_member x y (there i) = elim i [ ]
 module _ (f : Parts) (generics : List GenericValue) (to : Name) where
   listed : (p : Port) (ports : List Port) → In p ports → begins_arc f p ≡ true → In (arc_of generics p.name to) (arcs_to f generics to ports)
   listed p [] i is = elim i [ ]
-  listed p (q ∷ rest) i is = by (begins_arc f q) refl (in_cases p q rest i) (λ j. listed p rest j is) where
+  listed p (q ∷ rest) i is = by (begins_arc f q) refl (In-cases p q rest i) (λ j. listed p rest j is) where
     by : (b : Bool) → begins_arc f q ≡ b → (q ≡ p) ⊎ In p rest → (In p rest → In (arc_of generics p.name to) (arcs_to f generics to rest))
         → In (arc_of generics p.name to) (cond b (arc_of generics q.name to ∷ arcs_to f generics to rest) (arcs_to f generics to rest))
     by true e (inl same) later = subst (λ (r : Port). In (arc_of generics r.name to) (arc_of generics q.name to ∷ arcs_to f generics to rest)) same here
@@ -62,26 +65,26 @@ module _ (f : Parts) (generics : List GenericValue) (to : Name) where
     by : (b : Bool) → In a (cond b (arc_of generics q.name to ∷ arcs_to f generics to rest) (arcs_to f generics to rest))
         → (In a (arcs_to f generics to rest) → (p : Port) × In p rest × (a ≡ arc_of generics p.name to))
         → (p : Port) × In p (q ∷ rest) × (a ≡ arc_of generics p.name to)
-    by true j later = elim (in_cases a (arc_of generics q.name to) (arcs_to f generics to rest) j) [
+    by true j later = elim (In-cases a (arc_of generics q.name to) (arcs_to f generics to rest) j) [
       | inl same ↦ (q, here, sym same)
       | inr k ↦ let r = later k in (r.0, there r.1, r.2)
     ]
     by false j later = let r = later j in (r.0, there r.1, r.2)
 
   -- no two begin at one port
-  once_to : (ports : List Port) → Sorted ports → (j k : ℕ) (a b : Arc) → Stands (arcs_to f generics to ports) j a → Stands (arcs_to f generics to ports) k b
-      → a.from ≡ b.from → j ≡ k
+  once_to : (ports : List Port) → AllDifferent (names_of ports) → (j k : ℕ) (a b : Arc) → slice_get (arcs_to f generics to ports) j ≡ Some a
+      → slice_get (arcs_to f generics to ports) k ≡ Some b → a.from ≡ b.from → j ≡ k
   once_to [] s j k a b p q same = absurd cc
   once_to (r ∷ rest) s j k a b p q same = by (begins_arc f r) j k p q (λ x y h g. once_to rest s.1 x y a b h g same) where
-    late : (x : ℕ) (c d : Arc) → Stands (arcs_to f generics to rest) x c → c.from ≡ d.from → arc_of generics r.name to ≡ d → ⊥
+    late : (x : ℕ) (c d : Arc) → slice_get (arcs_to f generics to rest) x ≡ Some c → c.from ≡ d.from → arc_of generics r.name to ≡ d → ⊥
     late x c d h e is =
-        let i = of_port c rest (stands_in (arcs_to f generics to rest) x c h) in
+        let i = of_port c rest (at_place (arcs_to f generics to rest) x c h) in
         let name : i.0.name ≡ r.name = sym (ap (λ (z : Arc). z.from) i.2) ∙ e ∙ sym (ap (λ (z : Arc). z.from) is) in
-        before_itself r.name (subst (λ (z : Name). IsTrue (comes_before r.name z)) name (s.0 i.0 i.1))
+        s.0 (subst (λ (z : Name). In z (names_of rest)) name (In-map (λ (p : Port). p.name) i.0 rest i.1))
 
-    by : (v : Bool) (x y : ℕ) → Stands (cond v (arc_of generics r.name to ∷ arcs_to f generics to rest) (arcs_to f generics to rest)) x a
-        → Stands (cond v (arc_of generics r.name to ∷ arcs_to f generics to rest) (arcs_to f generics to rest)) y b
-        → ((m n : ℕ) → Stands (arcs_to f generics to rest) m a → Stands (arcs_to f generics to rest) n b → m ≡ n) → x ≡ y
+    by : (v : Bool) (x y : ℕ) → slice_get (cond v (arc_of generics r.name to ∷ arcs_to f generics to rest) (arcs_to f generics to rest)) x ≡ Some a
+        → slice_get (cond v (arc_of generics r.name to ∷ arcs_to f generics to rest) (arcs_to f generics to rest)) y ≡ Some b
+        → ((m n : ℕ) → slice_get (arcs_to f generics to rest) m ≡ Some a → slice_get (arcs_to f generics to rest) n ≡ Some b → m ≡ n) → x ≡ y
     by false x y h g later = later x y h g
     by true zero zero h g later = refl
     by true (suc x) (suc y) h g later = ap suc (later x y h g)
@@ -89,10 +92,6 @@ module _ (f : Parts) (generics : List GenericValue) (to : Name) where
     by true (suc x) zero h g later = let is : arc_of generics r.name to ≡ b = cc g in absurd (late x a b h same is)
 
 -- ---- a cell
-
-ports_of : (generics : List GenericValue) (ports : List Port) → map (λ (p : Pin). p.port) (map (pin_of generics) ports) ≡ ports
-ports_of generics [] = refl
-ports_of generics (p ∷ rest) = ap (λ (ps : List Port). p ∷ ps) (ports_of generics rest)
 
 abbrev arcs_by : Parts → List Port → List GenericValue → Option Name → List Arc
 arcs_by f ports generics None = []
@@ -106,7 +105,7 @@ only_one ports to is = ap (λ (names : List Name). if nat_eq (length names) 1 th
 
 out_name : (ports : List Port) (p : Port) → In p ports → p.dir ≡ dir.Out → In p.name (output_names ports)
 out_name [] p i is = elim i [ ]
-out_name (q ∷ rest) p i is = by (is_input q.dir) refl (in_cases p q rest i) (λ j. out_name rest p j is) where
+out_name (q ∷ rest) p i is = by (is_input q.dir) refl (In-cases p q rest i) (λ j. out_name rest p j is) where
   by : (b : Bool) → is_input q.dir ≡ b → (q ≡ p) ⊎ In p rest → (In p rest → In p.name (output_names rest)) → In p.name (output_names (q ∷ rest))
   by true e (inl same) later =
       let bad : true ≡ false = sym e ∙ ap (λ (r : Port). is_input r.dir) same ∙ ap is_input is in absurd cc
@@ -114,9 +113,9 @@ out_name (q ∷ rest) p i is = by (is_input q.dir) refl (in_cases p q rest i) (�
   by false e (inl same) later = rw e (subst (λ (r : Port). In r.name (q.name ∷ output_names rest)) same here)
   by false e (inr j) later = rw e (there (later j))
 
-module _ (text : CellText) (c : Cell) (does : DoesAs text c) (usable : IsUsable c) where
+module _ (text : CellText) (c : Cell) (does : DoesAs text c) (different : AllDifferent (names_of (pin_ports c))) (usable : IsUsable c) where
   same_ports : pin_ports c ≡ text.ports
-  same_ports = ap (λ (pins : List Pin). map (λ (p : Pin). p.port) pins) does.pins ∙ ports_of text.generics text.ports
+  same_ports = ports_are text c does
 
   one_output : (f : Function) → IsPlain c f → length (cell_outputs c) ≡ 1
   one_output (gate e) plain = plain.0
@@ -135,7 +134,7 @@ module _ (text : CellText) (c : Cell) (does : DoesAs text c) (usable : IsUsable 
   -- a pin as a port of the text
   port_of : (way : Dir) (name : Name) → HasPin c.pins way name → (p : Port) × In p text.ports × (p.name ≡ name) × (p.dir ≡ way)
   port_of way name h =
-      let i = stands_in c.pins h.listed.0 h.pin h.listed.1 in
+      let i = at_place c.pins h.listed.0 h.pin h.listed.1 in
       (h.pin.port, subst (λ (ps : List Port). In h.pin.port ps) same_ports (In-map (λ (p : Pin). p.port) h.pin c.pins i), h.named, h.is)
 
   to_output : (name : Name) → HasPin c.pins dir.Out name → name ≡ to.0
@@ -152,35 +151,28 @@ module _ (text : CellText) (c : Cell) (does : DoesAs text c) (usable : IsUsable 
   begins parts.Opaque p (inl h) is = absurd h
   begins parts.Opaque p (inr h) is = absurd h
 
-  has_arcs : HasItsArcs c
-  has_arcs = record {
+  does_have : HasItsArcs c
+  does_have = record {
     one = λ from name h takes gives.
         let p = port_of dir.In from takes in
         let starts : Begins (function_view does.computed) p.0.name = subst (λ (n : Name). Begins (function_view does.computed) n) (sym p.2) (subst (λ (f : Function). Begins f from) does.function h) in
         let i = listed does.computed text.generics to.0 p.0 text.ports p.1 (begins does.computed p.0 starts p.3) in
-        let r = in_stands (arc_of text.generics p.0.name to.0) (arcs_to does.computed text.generics to.0 text.ports) i in
-        (r.0, arc_of text.generics p.0.name to.0, subst (λ (arcs : List Arc). Stands arcs r.0 (arc_of text.generics p.0.name to.0)) (sym the_arcs) r.1, p.2, sym (to_output name gives));
+        let r = some_place (arcs_to does.computed text.generics to.0 text.ports) (arc_of text.generics p.0.name to.0) i in
+        (r.0, arc_of text.generics p.0.name to.0, subst (λ (arcs : List Arc). slice_get arcs r.0 ≡ Some (arc_of text.generics p.0.name to.0)) (sym the_arcs) r.1, p.2, sym (to_output name gives));
     once = λ j k a b p q from same.
         once_to does.computed text.generics to.0 text.ports
-        (subst Sorted same_ports (sorted_of (pin_ports c) usable.order)) j k a b
-        (subst (λ (arcs : List Arc). Stands arcs j a) the_arcs p) (subst (λ (arcs : List Arc). Stands arcs k b) the_arcs q) from;
+        (subst (λ (ps : List Port). AllDifferent (names_of ps)) same_ports different) j k a b
+        (subst (λ (arcs : List Arc). slice_get arcs j ≡ Some a) the_arcs p) (subst (λ (arcs : List Arc). slice_get arcs k ≡ Some b) the_arcs q) from;
   }
+
+pub has_arcs : (source : Source) (c : Cell) → IsSaid source c → IsUsable c → HasItsArcs c
+has_arcs source c s usable = does_have s.text c s.does (pins_different source c s) usable
 
 -- ---- a library
 
-cell_in : (cells : List Cell) (model : List ℕ) (c : Cell) → cell_named cells model ≡ Some c → In c cells
+pub cell_in : (cells : List Cell) (model : List ℕ) (c : Cell) → cell_named cells model ≡ Some c → In c cells
 cell_in [] model c h = absurd cc
 cell_in (d ∷ rest) model c h = by (is_same_text d.name model) h (λ k. cell_in rest model c k) where
   by : (b : Bool) → cond b (Some d) (cell_named rest model) ≡ Some c → (cell_named rest model ≡ Some c → In c rest) → In c (d ∷ rest)
   by true k later = let same : d ≡ c = cc k in subst (λ (x : Cell). In x (d ∷ rest)) same here
   by false k later = there (later k)
-
-said : (tracks : Bool) (all : List Source) (cells : List Cell) → AreCells (IsCell tracks) all cells → (c : Cell) → In c cells → (s : Source) × IsCell tracks s c
-said tracks _ _ none c i = elim i [ ]
-said tracks _ _ (next {source = s} {cell = d} {cells = cells} is rest) c here = (s, is)
-said tracks _ _ (next {rest = sources} {cells = cells} is rest) c (there i) = said tracks sources cells rest c i
-
-pub library_has_arcs : LibraryHasArcs
-library_has_arcs tracks catal files l library model c found usable =
-    let s = said tracks (sources library.names files) l.cells library.cells c (cell_in l.cells model c found) in
-    has_arcs s.1.said.text c s.1.said.does usable
