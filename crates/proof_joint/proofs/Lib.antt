@@ -8,3 +8,5 @@ pub mod Descent
 pub mod Spreading
 pub mod Clocks
 pub mod Comparable
+pub mod Leaving
+pub mod Behaving

@@ -106,7 +106,7 @@ values_itself (n ∷ names) (b ∷ w) d e =
     let rest = skip n b names w names d.0 ∙ values_itself names w d.1 (omega arith) in
     λ j. own_first n b names w j ∷ rest j
 
-filter_names : (t : Name → Bool) (n : Name) (xs : List Name) → In n (filter t xs) → In n xs
+pub filter_names : (t : Name → Bool) (n : Name) (xs : List Name) → In n (filter t xs) → In n xs
 filter_names t n [] h = elim h [ ]
 filter_names t n (x ∷ xs) h = by (t x) h (λ p. filter_names t n xs p) where
   first : (m : Name) → In m (x ∷ filter t xs) → (In m (filter t xs) → In m xs) → In m (x ∷ xs)

@@ -8,9 +8,11 @@
 mod clock;
 mod differing;
 mod joint;
+mod laws;
 mod naming;
 
 pub use clock::as_compared;
 pub use differing::{differing_bits, given_bits, spread_bits};
 pub use joint::{JointDiagram, joint_diagram};
+pub use laws::compared_law;
 pub use naming::{Role, least_one_sided};
