@@ -1,13 +1,24 @@
-//! Tests of single calls that no run of a tool shows: what a text is cut into, orders and rings, values and sizes of expressions,
-//! numbers, a state machine that is written, and the shelves and sinks by themselves.
+//! Tests of single calls that no run of a tool shows: what a text is cut into, a reader's small calls, orders and rings, values and
+//! sizes of expressions, bits that diagrams pick, gaps, rectangles of pins, numbers, what lists give back, a state machine that is
+//! written, and the shelves and sinks by themselves.
 #![tactic(auto)]
 
 #[cfg(test)]
+mod diagrams;
+#[cfg(test)]
 mod expressions;
+#[cfg(test)]
+mod gaps;
+#[cfg(test)]
+mod lists;
 #[cfg(test)]
 mod nodes;
 #[cfg(test)]
 mod numbers;
+#[cfg(test)]
+mod pins;
+#[cfg(test)]
+mod readers;
 #[cfg(test)]
 mod shelves;
 #[cfg(test)]
