@@ -1,6 +1,5 @@
 pub mod Places
 pub mod Sentences
-pub mod Letters
 pub mod Words
 pub mod Columns
 pub mod Values
