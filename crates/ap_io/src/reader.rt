@@ -33,7 +33,7 @@ fn fault_on(alloc: Global, line: u32, kind: FaultKind) -> ReadError
     })
 }
 
-/// A limit that a line passes. The last line, which isn't EOF, lacks its end first.
+/// A limit that a line exceeds. The last line, which isn't EOF, lacks its end first.
 fn limit_on(alloc: Global, line: u32, rest: &Lines, limit: Limit) -> ReadError
     ensures { result ≡ limit_on line (map without_return rest.now) (errors.Limit limit) }
 {

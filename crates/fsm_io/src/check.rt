@@ -1,4 +1,4 @@
-// The state machine that a text is, or why it is none.
+// The state machine that a text describes, or why it is rejected.
 ghost use Rattle.std.specs.Prelude.{◌≡◌, ◌<◌, ◌≤◌, ◌^◌, [], map, length, None, IfOk, IfErr, MatchOption};
 ghost use Rattle.std.specs.List.Sorted.{IsPermutation};
 ghost use Rattle.machine_core.specs.Checked.{AreInOrder};
@@ -227,7 +227,7 @@ impl Checking<'_> {
         frame.body(&self.file.step.body)
     }
 
-    /// A limit that is passed: of the port bits, or else of the states.
+    /// A limit that is exceeded: of the port bits, or else of the states.
     fn limit(&self, ports: &[Port]) -> Option<ReadError>
         requires { ports_count (tree_of self.now) ≡ length ports.now }
         ensures { MatchOption result ((ports_count (tree_of self.now) ≤ most_ports) × (length (tree_of self.now).states.states ≤ most_states))
@@ -276,7 +276,7 @@ impl Checking<'_> {
         }
     }
 
-    /// The state machine of a text in which no check before that for what is assigned fails, or why there is none.
+    /// The state machine of a text in which no check before that for what is assigned fails, or why it is rejected.
     fn finished(&self) -> Result<StateMachine, ReadError>
         requires suits { Suits self.now }
         requires sound { early_fault (tree_of self.now) (roles_of self.now) ≡ None }
@@ -296,7 +296,7 @@ impl Checking<'_> {
         Ok(machine)
     }
 
-    /// The state machine, or why there is none.
+    /// The state machine, or why the text is rejected.
     fn checked(&self) -> Result<StateMachine, ReadError>
         requires { Suits self.now }
         ensures machine { IfOk result (λ f. PassesBehind (tree_of self.now) (roles_of self.now) × IsMachineOf (tree_of self.now) (roles_of self.now) f) }
@@ -339,7 +339,7 @@ fn over(which: LimitKind, reached: usize) -> ReadError
     })
 }
 
-/// The state machine of a text in which no name is declared twice, or why it is none.
+/// The state machine of a text in which no name is declared twice, or why it is rejected.
 fn check_named(
     alloc: Global,
     table: SymbolTable,
@@ -370,10 +370,10 @@ fn check_named(
     checking.checked()
 }
 
-/// The state machine that a text is, or why it is none: the first check that fails, in this order: a name that is declared twice, a
-/// pragma that is missing or names nothing that fits, an unknown name, a width, an output that nothing assigns, a form that is left
-/// out, the clock, a name that is no state, a target that some state leaves out; then more than 4096 port bits, or more than 256
-/// states. Each text that `read_machine` of `fsm_text` reads meets what is asked of it. Takes memory for each declared bit, and for
+/// The state machine that a text describes, or the first check that fails, in this order: a name that is declared twice, a pragma
+/// that is missing or names nothing that fits, an unknown name, a width, an output that nothing assigns, an unsupported form, the
+/// clock, a name that isn't a state's, a target that some state leaves out; then more than 4096 port bits, or more than 256 states.
+/// Each text that `read_machine` of `fsm_text` reads meets what is asked of it. Takes memory for each declared bit, and for
 /// each bit that is assigned.
 pub fn check_fsm(
     alloc: Global,

@@ -29,10 +29,10 @@ fn tokens_of(alloc: Global, bytes: &[u8]) -> Result<Tokens, ReadError>
 /// Reads the text of a state machine.
 ///
 /// It is refused, in this order: `Limit` of `File` with 1,048,577 reached, where it has more than 1,048,576 bytes; what the
-/// lexer refuses; the first token with which the tokens so far begin no text (`Syntax`), which declares a name twice, or
-/// passes a limit; then by the checks, each at its first place in the text: `NoPragma`, `Unknown`, `Width`, `Undriven`,
-/// `Unsupported`, `ClockUse`, `BadState`, `NotAssigned`, and `Limit` of `Ports` and of `States`. Memory goes by the bytes and by the
-/// bits of what is written; time beside for each output bit by the statements that each state walks.
+/// lexer refuses; the first token that can't follow those before it (`Syntax`), that declares a name twice, or that
+/// exceeds a limit; then by the checks, each at its first place in the text: `NoPragma`, `Unknown`, `Width`, `Undriven`,
+/// `Unsupported`, `ClockUse`, `BadState`, `NotAssigned`, and `Limit` of `Ports` and of `States`. Memory grows with the bytes and with
+/// the bits of what is written, and time with these and, for each output bit, with the statements that each state walks.
 pub fn read_fsm(alloc: Global, bytes: &[u8]) -> Result<StateMachine, ReadError>
     ensures accepted { IfOk result (λ f. IsFsm bytes.now f) }
     ensures refused { IfErr result (λ e. IsFsmRefusal bytes.now e) }

@@ -1,4 +1,4 @@
-// Names of states that are none, or that a case lists twice.
+// Names that should be states and aren't, or that a case lists twice.
 ghost use Rattle.std.specs.Prelude.{◌≡◌, ◌≤◌, ◌++◌, [], None, map, length, IfOk};
 ghost use Rattle.std.specs.Option.{option_map};
 ghost use Rattle.vlsi_base.specs.Tree.{view};
@@ -24,7 +24,7 @@ pub fn state_table(alloc: Global, states: &[NewName]) -> Result<SymbolTable, All
     Ok(made)
 }
 
-/// The place of a state; as many as there are where it is none.
+/// The place of a state; for another name, how many states there are.
 #[tactic(auto, using(crate::proofs::StateNames::number_some, crate::proofs::StateNames::number_none))]
 fn place_of(states: &SymbolTable, text: &Text) -> usize
     ensures { result ≡ state_number (symbol_texts states.now) text.now }
@@ -35,7 +35,7 @@ fn place_of(states: &SymbolTable, text: &Text) -> usize
     }
 }
 
-/// The number of a state; as many as there are where it is none.
+/// The number of a state; for another name, how many states there are.
 pub fn state_number(states: &SymbolTable, text: &Text) -> u32
     requires { length states.now ≤ most_numbered }
     ensures { result ≡ state_number (symbol_texts states.now) text.now }
@@ -119,7 +119,7 @@ fn bad_at<'a>(
     }
 }
 
-/// The first name that should be a state and is none, or that a case lists a second time. Takes memory for each listed state.
+/// The first name that should be a state and isn't, or that a case lists a second time. Takes memory for each listed state.
 pub fn bad_state<'a>(
     alloc: Global,
     declared: &[NewName],

@@ -18,7 +18,7 @@ pub const PAD_WIDTH: u16 = 200;
 /// How much longer than its line a wire is at both ends.
 pub const WIRE_OVERHANG: u16 = 100;
 
-/// A rectangle is narrow if it is less wide or high.
+/// A rectangle is narrow if its width or its height is less.
 pub const LEAST_WIDTH: u16 = 200;
 
 /// Two shapes are near if their gap is less.

@@ -36,7 +36,7 @@ fn leaves_out(kind: FaultKind) -> bool
     }
 }
 
-/// Whether a refusal is for a form that is left out, or for the clock.
+/// Whether a refusal is for an unsupported form, or for how the clock is used.
 fn is_left_out(e: &ReadError) -> bool
     ensures { result ≡ is_left_out e.now }
 {
@@ -61,7 +61,7 @@ fn outlined(alloc: Global, design: &DesignFile) -> Result<Outline, AllocError>
     })
 }
 
-/// The machine of what is written; none where it has a form that is left out, or a clock that is none.
+/// The machine of what is written; none where it has an unsupported form, or misuses the clock.
 fn behaviour(alloc: Global, design: DesignFile) -> Result<Option<Machine>, ReadError>
     requires few { length (all_names (symbols design)) < 2 ^ 32 }
     requires short { HasShortExpressions design }
@@ -139,8 +139,8 @@ fn completed(alloc: Global, outline: Outline, design: DesignFile) -> Result<Cell
 ///
 /// A text is read as `read_vbe` reads it, and refused for what that refuses, with two exceptions: where the first check that
 /// fails is `Unsupported` or `ClockUse`, the cell is read without a machine. It is then refused with `Limit` of `Ports` where it
-/// has more than 4096 port bits, and bits of mode inout count. Memory and time go by the bytes and by the bits of what is
-/// written.
+/// has more than 4096 port bits, and bits of mode inout count. Memory and time grow with the bytes and with the
+/// bits of what is written.
 pub fn read_cell_vbe(alloc: Global, bytes: &[u8]) -> Result<CellText, ReadError>
     ensures accepted { IfOk result (λ cell. IsCellText bytes.now cell) }
     ensures refused { IfErr result (λ e. IsCellRefusal bytes.now e) }

@@ -31,7 +31,7 @@ pub struct CellText {
     /// The port bits without vdd and vss, in the order of names; those of a port of mode inout count as outputs.
     pub ports: Ports,
     pub generics: GenericValues,
-    /// What the cell does; none where its text has a form that is left out, or a clock that is none.
+    /// What the cell does; none where its text has an unsupported form, or misuses the clock.
     pub machine: Option<Machine>,
 }
 

@@ -43,13 +43,13 @@ pub(crate) fn written(alloc: Global, bytes: &[u8]) -> Result<DesignFile, ReadErr
     read_source(alloc, &tokens)
 }
 
-/// Reads a data-flow text, and makes the machine that it is.
+/// Reads a data-flow text, and makes the machine that it describes.
 ///
 /// It is refused, in this order: `Limit` of `File` with 1,048,577 reached, where it has more than 1,048,576 bytes; what the
-/// lexer refuses; the first token with which the tokens so far begin no text (`Syntax`), which declares a name twice, or
-/// passes a limit; then by the checks, each but `Cycle` at its first place in the text: `Unknown`, `Width`, `TwoDrivers`,
-/// `Undriven`, `Unsupported`, `ClockUse`, `Cycle`, and `Limit` of `Ports`. Memory and time go by the bytes and by the bits of what is
-/// written.
+/// lexer refuses; the first token that can't follow those before it (`Syntax`), that declares a name twice, or that
+/// exceeds a limit; then by the checks, each but `Cycle` at its first place in the text: `Unknown`, `Width`, `TwoDrivers`,
+/// `Undriven`, `Unsupported`, `ClockUse`, `Cycle`, and `Limit` of `Ports`. Memory and time grow with the bytes and with the
+/// bits of what is written.
 pub fn read_vbe(alloc: Global, bytes: &[u8]) -> Result<Machine, ReadError>
     ensures accepted { IfOk result (λ m. IsVbe bytes.now m) }
     ensures refused { IfErr result (λ e. IsVbeRefusal bytes.now e) }

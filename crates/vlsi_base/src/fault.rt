@@ -1,4 +1,4 @@
-// What can be wrong with an input file, where, and which limit it passes.
+// What can be wrong with an input file, where, and which limit it exceeds.
 ghost use Rattle.std.specs.Prelude.{◌≡◌, codes};
 ghost use Rattle.vlsi_base.specs.Fault.{fault_text, limit_text};
 ghost use Rattle.vlsi_base.specs.declared.fault.ReadError.TheVariants.{Memory};
@@ -12,7 +12,7 @@ use thiserror::Error;
 pub enum FaultKind {
     /// A byte that begins no token.
     BadByte,
-    /// A token with which the tokens so far begin no sentence.
+    /// A token that can't follow those before it.
     Syntax,
     /// A name that is declared twice.
     Twice,
@@ -22,18 +22,18 @@ pub enum FaultKind {
     Unknown,
     /// A bit that two assignments drive.
     TwoDrivers,
-    /// A bit that none drives.
+    /// A bit that nothing drives.
     Undriven,
     /// Signals of which each reads the next, and the last the first.
     Cycle,
     /// Vectors of different widths, a condition of more than one bit, a range or an index that isn't in its vector, or a
     /// pattern's value that doesn't fit its column.
     Width,
-    /// The clock or a `'stable` stands outside of guards, or a guard has none or another than the first.
+    /// The clock or a `'stable` stands outside of guards, or a guard has no clock, or another than the first guard.
     ClockUse,
     /// An output that a state of a state machine doesn't assign.
     NotAssigned,
-    /// A name of no state.
+    /// A name that isn't a state's.
     BadState,
     /// A pragma of a state machine that is missing, or names no fitting signal.
     NoPragma,
@@ -45,17 +45,17 @@ pub enum FaultKind {
     Unconnected,
     /// A net that nothing drives.
     NoDriver,
-    /// A pattern before the one before it.
+    /// A pattern whose time is before that of the pattern above it.
     TimeBack,
-    /// A line of an ap file that is none.
+    /// A malformed line of an ap file.
     BadLine,
-    /// A layer that there isn't.
+    /// An unknown layer.
     BadLayer,
-    /// A transform that there isn't.
+    /// An unknown transform.
     BadTransform,
     /// An ap file without its last line.
     NoEnd,
-    /// Something behind an ap file's last line.
+    /// Text behind an ap file's last line.
     AfterEnd,
     /// An instance that isn't placed.
     NotPlaced,
@@ -103,14 +103,14 @@ pub struct InputFault {
     pub names: Names,
 }
 
-/// The quantities that have a greatest number.
+/// The quantities that are limited.
 #[derive(Clone, Copy, Debug, PartialEq, Eq)]
 pub enum LimitKind {
     /// Bytes of a file.
     File,
     /// Bytes of an identifier.
     Ident,
-    /// Parentheses, ifs and cases that are open together.
+    /// Parentheses, ifs and cases that are open at once.
     Depth,
     /// Bits of all ports and signals of a source; of the ports and pins of a netlist; of the machine of a netlist.
     Bits,
@@ -154,7 +154,7 @@ impl LimitKind {
     }
 }
 
-/// A quantity that is over its number, and what it reached.
+/// A quantity that exceeds its limit, and what it reached.
 #[derive(Clone, Copy, Debug, PartialEq, Eq)]
 pub struct Limit {
     pub which: LimitKind,

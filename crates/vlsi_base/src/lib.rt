@@ -1,4 +1,4 @@
-//! The words that every crate speaks: texts and their lines, names with a bit, ports, faults and limits of input, decimal numbers,
+//! The vocabulary that the crates share: texts and their lines, names with a bit, ports, faults and limits of input, decimal numbers,
 //! the kinds of gates that mapping needs.
 #![tactic(auto)]
 

@@ -13,7 +13,7 @@ use std::marker::Model;
 /// A name's text and its bit, as an index orders names.
 type Key<'a> = (&'a [u8], Option<u32>);
 
-/// An index of names that stand in a list. Contracts see it as the map from each name to the place that was put in last
+/// An index of names that stand in a list. Contracts see it as the map from each name to the place that was recorded last
 /// for it.
 #[derive(Drop)]
 pub struct NameIndex<'a> {
@@ -42,7 +42,7 @@ impl<'a> NameIndex<'a> {
         }
     }
 
-    /// Puts in that a name stands at a place. Takes memory for one entry; of two places of one name the later counts.
+    /// Records that a name stands at a place. Takes memory for one entry; of two places of one name the later counts.
     /// Without memory all stays as it was.
     pub fn insert(
         &mut self,
@@ -57,7 +57,7 @@ impl<'a> NameIndex<'a> {
         Ok(())
     }
 
-    /// Puts in the names of a list with their places. Takes memory for one entry a name.
+    /// Records the names of a list with their places. Takes memory for one entry a name.
     pub fn insert_all(&mut self, names: &'a [Name]) -> Result<(), AllocError>
         ensures { OnOk result ((n : Name) → get self.new n ≡ option_or (last_place names.now n) (get self.old n)) }
     {
@@ -67,7 +67,7 @@ impl<'a> NameIndex<'a> {
         Ok(())
     }
 
-    /// The place that was put in last for a name. Takes no memory.
+    /// The place that was recorded last for a name. Takes no memory.
     pub fn find(&self, text: &'a [u8], bit: Option<u32>) -> Option<usize>
         ensures { result ≡ get self.now (name_of text.now bit) }
     {

@@ -22,7 +22,7 @@ fn is_digit(c: u8) -> bool
     48 <= c && c <= 57
 }
 
-/// The number that the digits spell, unless it is over the type.
+/// The number that the digits spell, unless it doesn't fit the type.
 fn spelled(text: &[u8]) -> Option<u64>
     ensures value { IfSome result (λ n. n ≡ value_of text.now) }
     ensures over { IsNone result → 2 ^ 64 ≤ value_of text.now }
@@ -35,8 +35,8 @@ fn spelled(text: &[u8]) -> Option<u64>
     Some(value)
 }
 
-/// The number that 1 to 20 decimal digits spell. `None` exactly where the text isn't so many digits, or where
-/// the number is over the type. Takes no memory.
+/// The number that 1 to 20 decimal digits spell. `None` exactly where the text isn't 1 to 20 digits, or where
+/// the number doesn't fit the type. Takes no memory.
 pub fn read_u64(text: &[u8]) -> Option<u64>
     ensures read { IfSome result (λ n. IsNumeral text.now × (n ≡ value_of text.now)) }
     ensures refused { IsNone result → IsNumeral text.now → 2 ^ 64 ≤ value_of text.now }

@@ -92,12 +92,12 @@ fn signal_count(ports: &[Port]) -> usize
     count
 }
 
-/// Reads a structural text, and makes the netlist that it is, of models that a table lists.
+/// Reads a structural text, and makes the netlist that it describes, of models that a table lists.
 ///
 /// It is refused, in this order:
 ///
 /// - `Limit` of `File` with 268,435,457 reached, where it has more than 268,435,456 bytes; what the lexer refuses; the first token
-///   with which the tokens so far begin no text (`Syntax`), which declares a name twice, or passes a limit;
+///   that can't follow those before it (`Syntax`), that declares a name twice, or that exceeds a limit;
 /// - `Width` at the first range of a declaration whose bounds don't stand in the order of its word;
 /// - `Unsupported` at the first mode inout or type mux or wor, and port of the entity named vdd or vss that isn't `in bit`;
 /// - `UnknownCell` at the first component that the table doesn't list, with its name;
@@ -110,8 +110,8 @@ fn signal_count(ports: &[Port]) -> usize
 ///
 /// Where each model of the table has the pins vdd and vss, the netlist meets what every stage asks.
 ///
-/// Memory and time go by the bytes, by the bits of ports and pins, by the names of the table's models, and by each input pin on
-/// which an output pin depends; time with the logarithm of their number beside.
+/// Memory and time grow with the bytes, the bits of ports and pins, the names of the table's models, and the input pins on which
+/// output pins depend; time by the logarithm of their number besides.
 pub fn read_vst(alloc: Global, bytes: &[u8], table: &PinTable) -> Result<Netlist, ReadError>
     requires { IsPinTable table.now }
     ensures accepted { IfOk result (λ n. IsVst bytes.now table.now n) }
