@@ -4,12 +4,13 @@
 #![tactic(auto)]
 
 mod arguments;
+mod command;
 mod table;
 mod usage;
 mod values;
 mod words;
 
-pub use arguments::{taken, texts};
+pub use command::{FromValues, read_words};
 pub use table::{ENCODING, Entry, FANOUT, Form, LIBRARY, NODES, OUT, SEED, Setting};
 pub use usage::usage_line;
 pub use values::{
