@@ -1,4 +1,3 @@
 pub mod Refusing
 pub mod Contents
 pub mod Netlists
-pub mod Supplies

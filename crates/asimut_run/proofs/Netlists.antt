@@ -1,11 +1,7 @@
 -- From the refusals of readers and of simulation on netlists to the tool's.
-use Rattle.std.proofs.Common.{◌≡◌, ◌<◌, ◌^◌, ℕ, List, None, Ok, Err, false, ap, refl}
+use Rattle.std.proofs.Common.{◌≡◌, ◌<◌, ◌^◌, ℕ, List, None, Ok, Err, ap, refl}
 use Rattle.vlsi_base.specs.declared.fault.ReadError.{ReadError}
 use Rattle.cell_model.specs.Library.{Library}
-use Rattle.cell_lib.specs.declared.error.LibError.{LibError}
-use Rattle.cell_lib.proofs.Answering.{refused_library}
-use Rattle.cell_lib.specs.Cells.{OrMemory}
-use Rattle.cell_lib.specs.Library.{IsRefusedLibrary, status_of}
 use Rattle.net_core.specs.declared.pins.ModelPins.{ModelPins}
 use Rattle.net_core.specs.Netlist.{Netlist}
 use Rattle.net_right.specs.Condition.{MeetsCondition}
@@ -25,11 +21,7 @@ use Rattle.tool_drive.specs.declared.status.Status.TheVariants as status
 use Rattle.tool_drive.specs.declared.status.Verdict.TheVariants.{Differs, NoBehaviour}
 use Rattle.tool_drive.specs.Table.{IsJudged, refusal}
 use Rattle.tool_drive.specs.Refusals.{MemoryOr, OfFile, of_file, judged_file}
-use Rattle.asimut_run.specs.Netlist.{Texts, AreCells, AreRead, no_library, bad_netlist, bad_patterns, no_behaviour, many_bits, differs, Simulates, IsToldOf}
-
-pub by_library : (c : AsimutNetlistCommand) (t : Texts) (e : LibError) → OrMemory (IsRefusedLibrary false t.catal t.cells) e
-    → IsJudged (Simulates c t) (Err (refusal (status_of e) None))
-by_library c t e h = refused_library (Simulates c t) false t.catal t.cells e h (λ x r. (refl, no_library x r refl))
+use Rattle.asimut_run.specs.Netlist.{Texts, AreCells, AreRead, bad_netlist, bad_patterns, no_behaviour, many_bits, differs, Simulates, IsToldOf}
 
 pub by_netlist : (c : AsimutNetlistCommand) (t : Texts) (l : Library) (table : List ModelPins) (e : ReadError) (s : Status) → AreCells t l table
     → IsVstRefusal t.source table e → MemoryOr s (OfFile c.source (λ x. x ≡ e) s) → IsJudged (Simulates c t) (Err (refusal s None))

@@ -71,14 +71,14 @@ IsDifferent source patterns (status.No (Differs label name)) = IsDifference sour
 IsDifferent source patterns s = ⊥
 
 -- what is refused: the source, or else the patterns, or else a bit differs
-abbrev pub IsRefused : AsimutCommand → List ℕ → List ℕ → Status → Type 0
-IsRefused c source patterns s =
+abbrev pub IsAsimutRefusal : AsimutCommand → List ℕ → List ℕ → Status → Type 0
+IsAsimutRefusal c source patterns s =
     OfFile c.source (IsVbeRefusal source) s ⊎ (OfFile c.patterns (IsPatternFault source patterns) s ⊎ IsDifferent source patterns s)
 
 -- The filled patterns are printed, and no file is written; or one of these refusals.
 abbrev pub Simulates : AsimutCommand → List ℕ → List ℕ → Result Product Refusal → Type 0
 Simulates c source patterns (Ok p) = (p.name ≡ c.source) × (p.file ≡ None) × IsSimulation source patterns p.text
-Simulates c source patterns (Err r) = (r.part ≡ None) × IsRefused c source patterns r.status
+Simulates c source patterns (Err r) = (r.part ≡ None) × IsAsimutRefusal c source patterns r.status
 
 abbrev pub asimut_answers : AsimutCommand → Inputs → Result Product Refusal → Type 0
 asimut_answers c i r = Simulates c (get_or i.first 0 []) (get_or i.first 1 []) r

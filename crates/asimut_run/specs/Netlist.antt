@@ -2,10 +2,9 @@
 use Rattle.std.specs.Prelude.{◌≡◌, ℕ, ◌<◌, ◌^◌, true, false, List, [], ◌∷◌, get_or, None, Result, Ok, Err}
 use Rattle.vlsi_base.specs.declared.fault.LimitKind.TheVariants.{Bits}
 use Rattle.vlsi_base.specs.declared.name.Name.{Name}
-use Rattle.catal.specs.Cells.{cells_in}
 use Rattle.cell_model.specs.Library.{Library}
 use Rattle.cell_lib.specs.declared.error.LibError.{LibError}
-use Rattle.cell_lib.specs.Files.{catal_name, cell_files}
+use Rattle.cell_lib.specs.Files.{with_library}
 use Rattle.cell_lib.specs.Library.{IsLibraryOf, IsRefusedLibrary, status_of}
 use Rattle.cell_pins.specs.Table.{IsTableOf}
 use Rattle.net_core.specs.declared.pins.ModelPins.{ModelPins}
@@ -34,10 +33,7 @@ use Rattle.asimut_run.specs.Asimut.{label_of}
 
 -- SOURCE, PATTERNS, CATAL, and then the files of the cells that CATAL uses
 abbrev pub netlist_plan : AsimutNetlistCommand → Plan
-netlist_plan c = record {
-  first = large c.source ∷ limited c.patterns ∷ limited (catal_name c.library) ∷ [];
-  more = λ read. cell_files c.library (cells_in (get_or read 2 []));
-}
+netlist_plan c = with_library (large c.source ∷ limited c.patterns ∷ []) c.library
 
 -- what stands in the files
 pub record Texts : Type 0 where
@@ -73,23 +69,23 @@ pub record IsSimulation (t : Texts) (text : List ℕ) : Type 0 where
 
 -- What is refused, in this order: the library, the netlist, the patterns, an instance of a cell of which nothing is known, a machine
 -- of 2^32 bits or more, the first bit that isn't what the patterns expect.
-pub data IsRefused (c : AsimutNetlistCommand) (t : Texts) (s : Status) : Type 0 where
-  no_library : (e : LibError) → IsRefusedLibrary false t.catal t.cells e → s ≡ status_of e → IsRefused c t s
-  bad_netlist : (l : Library) (table : List ModelPins) → AreCells t l table → OfFile c.source (IsVstRefusal t.source table) s → IsRefused c t s
+pub data IsAsimutNetlistRefusal (c : AsimutNetlistCommand) (t : Texts) (s : Status) : Type 0 where
+  no_library : (e : LibError) → IsRefusedLibrary false t.catal t.cells e → s ≡ status_of e → IsAsimutNetlistRefusal c t s
+  bad_netlist : (l : Library) (table : List ModelPins) → AreCells t l table → OfFile c.source (IsVstRefusal t.source table) s → IsAsimutNetlistRefusal c t s
   bad_patterns : (l : Library) (table : List ModelPins) (n : Netlist) → AreCells t l table → IsVst t.source table n
-      → OfFile c.patterns (IsPatternRefusal t.patterns (signal_ports n.ports)) s → IsRefused c t s
+      → OfFile c.patterns (IsPatternRefusal t.patterns (signal_ports n.ports)) s → IsAsimutNetlistRefusal c t s
   no_behaviour : (l : Library) (table : List ModelPins) (n : Netlist) (p : Patterns) (model : List ℕ) → AreRead t l table n p
-      → IsFirstOpaque n l model → s ≡ status.No (NoBehaviour model) → IsRefused c t s
+      → IsFirstOpaque n l model → s ≡ status.No (NoBehaviour model) → IsAsimutNetlistRefusal c t s
   many_bits : (l : Library) (table : List ModelPins) (n : Netlist) (p : Patterns) (reached : ℕ) → AreRead t l table n p
-      → HasBehaviour n l → HasTooManyBits n l reached → s ≡ status.Limit (record { which = Bits; reached = reached }) → IsRefused c t s
+      → HasBehaviour n l → HasTooManyBits n l reached → s ≡ status.Limit (record { which = Bits; reached = reached }) → IsAsimutNetlistRefusal c t s
   differs : (l : Library) (table : List ModelPins) (n : Netlist) (p : Patterns) (number : ℕ) (bit : Name) → AreRead t l table n p
       → HasBehaviour n l → bits_of n l < 2 ^ 32 → DiffersOnNetlist n l table p number bit
-      → s ≡ status.No (Differs (label_of p.patterns number) bit) → IsRefused c t s
+      → s ≡ status.No (Differs (label_of p.patterns number) bit) → IsAsimutNetlistRefusal c t s
 
 -- The filled patterns are printed, and no file is written; or one of these refusals.
 abbrev pub Simulates : AsimutNetlistCommand → Texts → Result Product Refusal → Type 0
 Simulates c t (Ok p) = (p.name ≡ c.source) × (p.file ≡ None) × IsSimulation t p.text
-Simulates c t (Err r) = (r.part ≡ None) × IsRefused c t r.status
+Simulates c t (Err r) = (r.part ≡ None) × IsAsimutNetlistRefusal c t r.status
 
 -- the texts of what was read
 abbrev pub texts : List (List ℕ) → List (List ℕ) → Texts

@@ -12,4 +12,4 @@ mod words;
 pub use laws::asimut_law;
 pub use netlist::AsimutNetlist;
 pub use source::Asimut;
-pub use words::{ASIMUT_ENTRY, AsimutCommand, AsimutNetlistCommand, AsimutTask, read_asimut};
+pub use words::{ASIMUT_ENTRY, AsimutCommand, AsimutNetlistCommand, AsimutTask};

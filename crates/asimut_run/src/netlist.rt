@@ -1,5 +1,6 @@
 // `asimut` as a tool: patterns run on a netlist of library cells.
-ghost use Rattle.std.specs.Prelude.{◌≡◌, IfOk};
+ghost use Rattle.std.specs.Prelude.{◌≡◌, [], ℕ, List, get_or, IfOk, false};
+ghost use Rattle.cell_lib.specs.Library.{IsLibraryOf};
 ghost use Rattle.tool_drive.specs.Table.{IsJudged};
 ghost use Rattle.net_machine.specs.Signals.{MeetsConditionWith};
 ghost use Rattle.asimut_run.specs.Netlist.{texts, ForTexts, IsToldOf, Simulates};
@@ -7,7 +8,7 @@ ghost use Rattle.asimut_run.specs.Netlist.{texts, ForTexts, IsToldOf, Simulates}
 use crate::source::label;
 use crate::words::AsimutNetlistCommand;
 use cell_checks::Library;
-use cell_lib::{catal_file, library_status, named_files, read_library};
+use cell_lib::LibraryTool;
 use cell_pins::pin_table;
 use net_core::Netlist;
 use net_machine::signal_ports;
@@ -15,8 +16,8 @@ use net_sim::{NetSimError, simulate_net};
 use pat_io::{read_pat, write_pat};
 use pat_meaning::Pattern;
 use std::alloc::{AllocError, Global};
-use tool_drive::{Product, Refusal, Status, Tool, Verdict, Wanted, bytes_at, refused};
-use vlsi_base::{FileBytes, Limit, LimitKind};
+use tool_drive::{Product, Refusal, Status, Verdict, Wanted, bytes_at, refused};
+use vlsi_base::{FileBytes, FileName, Limit, LimitKind};
 use vst_io::read_vst;
 
 /// `asimut` on a netlist, with what it is asked: it runs PATTERNS on the netlist in SOURCE and prints them with every output filled
@@ -78,52 +79,54 @@ fn on_netlist(
     })
 }
 
-// What the texts come to: of SOURCE, PATTERNS and CATAL, and of the cells' files.
+// What the texts come to: of SOURCE and of PATTERNS.
 fn simulated(
     alloc: Global,
     command: &AsimutNetlistCommand,
+    library: &Library,
     first: &[FileBytes],
-    more: &[FileBytes],
 ) -> Result<Product, Refusal>
-    ensures { IsJudged (Simulates command.now (texts first.now more.now)) result }
+    ensures { (more : List (List ℕ)) → IsLibraryOf false (get_or first.now 2 []) more library.now
+        → IsJudged (Simulates command.now (texts first.now more)) result }
 {
-    let library = match read_library(alloc, bytes_at(first, 2), more, false) {
-        Ok(library) => library,
-        Err(error) => return Err(Refusal::plain(library_status(error))),
-    };
-    let table = pin_table(alloc, &library, true)?;
+    let table = pin_table(alloc, library, true)?;
     let netlist = match read_vst(alloc, bytes_at(first, 0), &table) {
         Ok(netlist) => netlist,
         Err(error) => return Err(Refusal::plain(refused(alloc, &command.source, error))),
     };
-    on_netlist(alloc, command, bytes_at(first, 1), &library, &netlist)
+    on_netlist(alloc, command, bytes_at(first, 1), library, &netlist)
 }
 
-impl Tool for AsimutNetlist<'_> {
-    ghost use Rattle.asimut_run.specs.Netlist.{netlist_plan, netlist_answers};
+impl LibraryTool for AsimutNetlist<'_> {
+    ghost use Rattle.std.specs.Prelude.{refl, [], ◌∷◌};
+    ghost use Rattle.tool_drive.specs.Plan.{limited, large};
+    ghost use Rattle.asimut_run.specs.Netlist.{netlist_answers, no_library};
 
-    ghost plan = { λ t. netlist_plan t.command.now };
+    ghost files = { λ t. large t.command.now.source ∷ limited t.command.now.patterns ∷ [] };
+
+    ghost folder = { λ t. t.command.now.library };
 
     ghost answers = { λ t. netlist_answers t.command.now };
 
-    fn first(&self, alloc: Global) -> Result<Vec<Wanted>, AllocError> {
+    fn own_files(&self, alloc: Global) -> Result<Vec<Wanted>, AllocError> {
         let mut wanted = Vec::new(alloc);
         wanted.push(Wanted::large(self.command.source.copy(alloc)?))?;
         wanted.push(Wanted::limited(self.command.patterns.copy(alloc)?))?;
-        wanted.push(catal_file(alloc, &self.command.library)?)?;
         Ok(wanted)
     }
 
-    fn more(&self, alloc: Global, first: &[FileBytes]) -> Result<Vec<Wanted>, AllocError> {
-        named_files(alloc, &self.command.library, bytes_at(first, 2))
+    fn library_folder(&self) -> &FileName {
+        &self.command.library
     }
 
-    fn judge(
+    fn judge_with(
         &self,
         alloc: Global,
+        library: &Library,
         first: &[FileBytes],
-        more: &[FileBytes],
     ) -> Result<Product, Refusal> {
-        simulated(alloc, self.command, first, more)
+        simulated(alloc, self.command, library, first)
     }
+
+    ghost refuses = { λ t first more e h. (refl, no_library e h refl) };
 }

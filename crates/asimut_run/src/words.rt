@@ -1,13 +1,8 @@
 // The words of `asimut`, and what they ask of it.
-ghost use Rattle.std.specs.Prelude.{◌≡◌, Some, None, IfOk, IsErrOf};
-ghost use Rattle.tool_words.specs.declared.words.WordsError.TheVariants.{Usage};
-ghost use Rattle.asimut_run.specs.Words.{asimut_from, asimut_of};
 
 use std::alloc::Global;
-use tool_words::{
-    Entry, Form, Setting, Values, WordsError, given, has_ending, source, taken, text, texts,
-};
-use vlsi_base::{FileName, Text};
+use tool_words::{Entry, Form, FromValues, Setting, Values, WordsError, given, has_ending, source, text};
+use vlsi_base::FileName;
 
 /// What `asimut` is asked to do: to run patterns on the source.
 #[derive(Drop)]
@@ -60,30 +55,29 @@ pub const ASIMUT_ENTRY: Entry = Entry {
     settings: &[PATTERNS, NETLIST_LIBRARY],
 };
 
-fn task(alloc: Global, values: &Values) -> Result<AsimutTask, WordsError>
-    ensures ok { IfOk result (λ task. asimut_from values.now ≡ Some task) }
-    ensures usage { IsErrOf result Usage → asimut_from values.now ≡ None }
-{
-    let source = source(alloc, values, ASIMUT_ENTRY.endings)?;
-    let patterns = text(alloc, values, PATTERNS)?;
-    let is_netlist = has_ending(source.as_bytes(), ".vst");
-    match (is_netlist, given(values, NETLIST_LIBRARY.name)) {
-        (false, None) => Ok(AsimutTask::Source(AsimutCommand { source, patterns })),
-        (true, Some(library)) => Ok(AsimutTask::Netlist(AsimutNetlistCommand {
-            source,
-            patterns,
-            library: FileName::from_bytes(alloc, library.as_bytes())?,
-        })),
-        _ => Err(WordsError::Usage),
-    }
-}
+impl FromValues for AsimutTask {
+    ghost use Rattle.asimut_run.specs.Words.{asimut, asimut_from};
 
-/// What the words behind `asimut` ask of it. `Usage` exactly where they are nothing of this form. It takes memory for what it answers.
-pub fn read_asimut(alloc: Global, words: &[Text]) -> Result<AsimutTask, WordsError>
-    ensures ok { IfOk result (λ task. asimut_of words.now ≡ Some task) }
-    ensures usage { IsErrOf result Usage → asimut_of words.now ≡ None }
-{
-    let texts = texts(alloc, words)?;
-    let values = taken(alloc, ASIMUT_ENTRY, texts.as_slice())?;
-    task(alloc, &values)
+    ghost called = { asimut };
+
+    ghost asked = { asimut_from };
+
+    fn entry() -> Entry {
+        ASIMUT_ENTRY
+    }
+
+    fn from_values(alloc: Global, values: &Values) -> Result<Self, WordsError> {
+        let source = source(alloc, values, ASIMUT_ENTRY.endings)?;
+        let patterns = text(alloc, values, PATTERNS)?;
+        let is_netlist = has_ending(source.as_bytes(), ".vst");
+        match (is_netlist, given(values, NETLIST_LIBRARY.name)) {
+            (false, None) => Ok(AsimutTask::Source(AsimutCommand { source, patterns })),
+            (true, Some(library)) => Ok(AsimutTask::Netlist(AsimutNetlistCommand {
+                source,
+                patterns,
+                library: FileName::from_bytes(alloc, library.as_bytes())?,
+            })),
+            _ => Err(WordsError::Usage),
+        }
+    }
 }

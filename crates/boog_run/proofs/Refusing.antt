@@ -4,19 +4,12 @@ use Rattle.vlsi_base.specs.declared.fault.ReadError.{ReadError}
 use Rattle.machine_core.specs.Machine.{Machine}
 use Rattle.vbe_io.specs.Text.{IsVbe, IsVbeRefusal}
 use Rattle.cell_model.specs.Library.{Library}
-use Rattle.cell_lib.specs.declared.error.LibError.{LibError}
-use Rattle.cell_lib.proofs.Answering.{refused_library}
-use Rattle.cell_lib.specs.Cells.{OrMemory}
-use Rattle.cell_lib.specs.Library.{IsLibraryOf, IsRefusedLibrary, status_of}
+use Rattle.cell_lib.specs.Library.{IsLibraryOf}
 use Rattle.boog_run.specs.declared.words.BoogCommand.{BoogCommand}
 use Rattle.tool_drive.specs.declared.status.Status.{Status}
 use Rattle.tool_drive.specs.Table.{IsJudged, IsFair, refusal}
 use Rattle.tool_drive.specs.Refusals.{MemoryOr, OfFile, of_file, judged_file, judged}
-use Rattle.boog_run.specs.Boog.{IsNoNetlist, too_large, no_cover, no_library, bad_source, no_netlist, Maps}
-
-pub by_library : (c : BoogCommand) (source list : List ℕ) (cells : List (List ℕ)) (e : LibError)
-    → OrMemory (IsRefusedLibrary false list cells) e → IsJudged (Maps c source list cells) (Err (refusal (status_of e) None))
-by_library c source list cells e h = refused_library (Maps c source list cells) false list cells e h (λ x r. (refl, no_library x r refl))
+use Rattle.boog_run.specs.Boog.{IsNoNetlist, too_large, no_cover, bad_source, no_netlist, Maps}
 
 pub by_source : (c : BoogCommand) (source list : List ℕ) (cells : List (List ℕ)) (l : Library) (e : ReadError) (s : Status)
     → IsLibraryOf false list cells l → IsVbeRefusal source e → MemoryOr s (OfFile c.source (λ x. x ≡ e) s)

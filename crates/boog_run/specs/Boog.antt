@@ -3,7 +3,6 @@ use Rattle.std.specs.Prelude.{◌≡◌, ℕ, ◌<◌, ◌≤◌, false, List, [
 use Rattle.machine_core.specs.Machine.{Machine}
 use Rattle.machine_core.specs.Size.{machine_size}
 use Rattle.vbe_io.specs.Text.{IsVbe, IsVbeRefusal}
-use Rattle.catal.specs.Cells.{cells_in}
 use Rattle.cell_model.specs.Library.{Library}
 use Rattle.vlsi_base.specs.declared.kind.Kind.{Kind}
 use Rattle.cell_model.specs.Covering.{needed, IsFirstMissing}
@@ -12,7 +11,7 @@ use Rattle.subject_graph.specs.Subject.{IsSubjectGraph}
 use Rattle.boog_map.specs.Netlist.{has_registers, Covers, UsesFirstCells, StandsInOrder, HasOneCellEach, IsLeanFor}
 use Rattle.net_right.specs.Writable.{CanBeNamed, PinsCanBeWritten}
 use Rattle.cell_lib.specs.declared.error.LibError.{LibError}
-use Rattle.cell_lib.specs.Files.{catal_name, cell_files}
+use Rattle.cell_lib.specs.Files.{with_library}
 use Rattle.cell_lib.specs.Library.{IsLibraryOf, IsRefusedLibrary, status_of}
 use Rattle.cell_pins.specs.Table.{IsTableOf}
 use Rattle.net_core.specs.declared.pins.ModelPins.{ModelPins}
@@ -35,10 +34,7 @@ use Rattle.tool_drive.specs.declared.size.TheConstants.{MOST_SIZE}
 
 -- SOURCE, then CATAL, and then the files of the cells that CATAL uses
 abbrev pub boog_plan : BoogCommand → Plan
-boog_plan c = record {
-  first = limited c.source ∷ limited (catal_name c.library) ∷ [];
-  more = λ read. cell_files c.library (cells_in (get_or read 1 []));
-}
+boog_plan c = with_library (limited c.source ∷ []) c.library
 
 abbrev pub netlist_name : List ℕ → List ℕ
 netlist_name out = out ++ codes ".vst"
@@ -90,15 +86,15 @@ pub data IsNoNetlist (l : Library) (m : Machine) (s : Status) : Type 0 where
   no_cover : machine_size m ≤ MOST_SIZE → (k : Kind) → IsFirstMissing l.cells k (needed (has_registers m)) → s ≡ status.NoCover k → IsNoNetlist l m s
 
 -- What is refused, in this order: the library, the source, its machine.
-pub data IsRefused (c : BoogCommand) (source catal : List ℕ) (cells : List (List ℕ)) (s : Status) : Type 0 where
-  no_library : (e : LibError) → IsRefusedLibrary false catal cells e → s ≡ status_of e → IsRefused c source catal cells s
-  bad_source : (l : Library) → IsLibraryOf false catal cells l → OfFile c.source (IsVbeRefusal source) s → IsRefused c source catal cells s
-  no_netlist : (l : Library) (m : Machine) → IsLibraryOf false catal cells l → IsVbe source m → IsNoNetlist l m s → IsRefused c source catal cells s
+pub data IsBoogRefusal (c : BoogCommand) (source catal : List ℕ) (cells : List (List ℕ)) (s : Status) : Type 0 where
+  no_library : (e : LibError) → IsRefusedLibrary false catal cells e → s ≡ status_of e → IsBoogRefusal c source catal cells s
+  bad_source : (l : Library) → IsLibraryOf false catal cells l → OfFile c.source (IsVbeRefusal source) s → IsBoogRefusal c source catal cells s
+  no_netlist : (l : Library) (m : Machine) → IsLibraryOf false catal cells l → IsVbe source m → IsNoNetlist l m s → IsBoogRefusal c source catal cells s
 
 -- the netlist is written and its number of instances is printed, or one of these refusals
 abbrev pub Maps : BoogCommand → List ℕ → List ℕ → List (List ℕ) → Result Product Refusal → Type 0
 Maps c source catal cells (Ok p) = IsMapping c source catal cells p
-Maps c source catal cells (Err r) = (r.part ≡ None) × IsRefused c source catal cells r.status
+Maps c source catal cells (Err r) = (r.part ≡ None) × IsBoogRefusal c source catal cells r.status
 
 abbrev pub boog_answers : BoogCommand → Inputs → Result Product Refusal → Type 0
 boog_answers c i r = Maps c (get_or i.first 0 []) (get_or i.first 1 []) i.more r

@@ -12,4 +12,4 @@ mod words;
 pub use boog::Boog;
 pub use laws::{boog_law, netlist_law};
 pub use netlist::{covered_netlist, netlist_of};
-pub use words::{BOOG_ENTRY, BoogCommand, read_boog};
+pub use words::{BOOG_ENTRY, BoogCommand};

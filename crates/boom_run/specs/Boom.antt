@@ -61,15 +61,15 @@ pub record IsBudgetStatus (m : Machine) (budget : ℕ) (s : Status) : Type 0 whe
   pub is : s ≡ status.Budget name (budget + 1)
 
 -- What is refused, in this order: the source, its size, the first root over the budget.
-pub data IsRefused (c : BoomCommand) (source : List ℕ) (s : Status) : Type 0 where
-  bad_source : OfFile c.source (IsVbeRefusal source) s → IsRefused c source s
-  too_large : (m : Machine) → IsVbe source m → MOST_SIZE < machine_size m → s ≡ size_limit m → IsRefused c source s
-  over_budget : (m : Machine) → IsVbe source m → machine_size m ≤ MOST_SIZE → IsBudgetStatus m c.nodes s → IsRefused c source s
+pub data IsBoomRefusal (c : BoomCommand) (source : List ℕ) (s : Status) : Type 0 where
+  bad_source : OfFile c.source (IsVbeRefusal source) s → IsBoomRefusal c source s
+  too_large : (m : Machine) → IsVbe source m → MOST_SIZE < machine_size m → s ≡ size_limit m → IsBoomRefusal c source s
+  over_budget : (m : Machine) → IsVbe source m → machine_size m ≤ MOST_SIZE → IsBudgetStatus m c.nodes s → IsBoomRefusal c source s
 
 -- the smaller source is written and its size is printed, or one of these refusals
 abbrev pub MakesSmaller : BoomCommand → List ℕ → Result Product Refusal → Type 0
 MakesSmaller c source (Ok p) = IsMadeSmaller c source p
-MakesSmaller c source (Err r) = (r.part ≡ None) × IsRefused c source r.status
+MakesSmaller c source (Err r) = (r.part ≡ None) × IsBoomRefusal c source r.status
 
 abbrev pub boom_answers : BoomCommand → Inputs → Result Product Refusal → Type 0
 boom_answers c i r = MakesSmaller c (get_or i.first 0 []) r

@@ -8,4 +8,4 @@ mod boom;
 mod words;
 
 pub use boom::{Boom, optimise_within};
-pub use words::{BOOM_ENTRY, BoomCommand, read_boom};
+pub use words::{BOOM_ENTRY, BoomCommand};

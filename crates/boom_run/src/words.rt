@@ -1,11 +1,8 @@
 // The words of `boom`, and what they ask of it.
-ghost use Rattle.std.specs.Prelude.{◌≡◌, Some, None, IfOk, IsErrOf};
-ghost use Rattle.tool_words.specs.declared.words.WordsError.TheVariants.{Usage};
-ghost use Rattle.boom_run.specs.Words.{boom_from, boom_of};
 
 use std::alloc::Global;
-use tool_words::{Entry, NODES, OUT, Values, WordsError, number, source, taken, text, texts};
-use vlsi_base::{FileName, Text};
+use tool_words::{Entry, FromValues, NODES, OUT, Values, WordsError, number, source, text};
+use vlsi_base::FileName;
 
 /// What `boom` is asked to do: to make the source smaller.
 #[derive(Drop)]
@@ -25,23 +22,22 @@ pub const BOOM_ENTRY: Entry = Entry {
     settings: &[OUT, NODES],
 };
 
-fn command(alloc: Global, values: &Values) -> Result<BoomCommand, WordsError>
-    ensures ok { IfOk result (λ c. boom_from values.now ≡ Some c) }
-    ensures usage { IsErrOf result Usage → boom_from values.now ≡ None }
-{
-    Ok(BoomCommand {
-        source: source(alloc, values, BOOM_ENTRY.endings)?,
-        out: text(alloc, values, OUT)?,
-        nodes: number(values, NODES)?,
-    })
-}
+impl FromValues for BoomCommand {
+    ghost use Rattle.boom_run.specs.Words.{boom, boom_from};
 
-/// What the words behind `boom` ask of it. `Usage` exactly where they are nothing of this form. It takes memory for what it answers.
-pub fn read_boom(alloc: Global, words: &[Text]) -> Result<BoomCommand, WordsError>
-    ensures ok { IfOk result (λ c. boom_of words.now ≡ Some c) }
-    ensures usage { IsErrOf result Usage → boom_of words.now ≡ None }
-{
-    let texts = texts(alloc, words)?;
-    let values = taken(alloc, BOOM_ENTRY, texts.as_slice())?;
-    command(alloc, &values)
+    ghost called = { boom };
+
+    ghost asked = { boom_from };
+
+    fn entry() -> Entry {
+        BOOM_ENTRY
+    }
+
+    fn from_values(alloc: Global, values: &Values) -> Result<Self, WordsError> {
+        Ok(BoomCommand {
+            source: source(alloc, values, BOOM_ENTRY.endings)?,
+            out: text(alloc, values, OUT)?,
+            nodes: number(values, NODES)?,
+        })
+    }
 }

@@ -7,3 +7,4 @@ mod Telling
 pub mod Plain
 pub mod Lawful
 pub mod Answering
+mod Tools

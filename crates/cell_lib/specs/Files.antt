@@ -1,5 +1,5 @@
 -- The files of a library.
-use Rattle.std.specs.Prelude.{ℕ, List, [], ◌∷◌, ◌++◌, codes, get_or}
+use Rattle.std.specs.Prelude.{ℕ, List, [], ◌∷◌, ◌++◌, codes, get_or, length}
 use Rattle.tool_drive.specs.declared.tool.Wanted.{Wanted}
 use Rattle.tool_drive.specs.Plan.{Plan, limited}
 use Rattle.catal.specs.Cells.{cells_in}
@@ -21,9 +21,13 @@ abbrev pub cell_files : List ℕ → List (List ℕ) → List Wanted
 cell_files dir [] = []
 cell_files dir (cell ∷ cells) = limited (vbe_name dir cell) ∷ limited (ap_name dir cell) ∷ cell_files dir cells
 
--- CATAL, and then the files of the cells that it uses; no further ones, where it is none
-abbrev pub library_plan : List ℕ → Plan
-library_plan dir = record {
-  first = limited (catal_name dir) ∷ [];
-  more = λ read. cell_files dir (cells_in (get_or read 0 []));
+-- These files, then CATAL, and then the files of the cells that CATAL uses; no further ones, where it is none.
+abbrev pub with_library : List Wanted → List ℕ → Plan
+with_library files dir = record {
+  first = files ++ limited (catal_name dir) ∷ [];
+  more = λ read. cell_files dir (cells_in (get_or read (length files) []));
 }
+
+-- a library alone
+abbrev pub library_plan : List ℕ → Plan
+library_plan dir = with_library [] dir

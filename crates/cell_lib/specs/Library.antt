@@ -93,6 +93,10 @@ pub record IsLibraryOf (tracks : Bool) (catal : List ℕ) (files : List (List �
   pub uses : IsCatal catal names
   pub cells : AreCells (IsCell tracks) (sources names files) l.cells
 
+-- it was read without the checks for tracks
+abbrev pub IsRead : CellLibrary → Type 0
+IsRead l = (catal : List ℕ) × (files : List (List ℕ)) × IsLibraryOf false catal files l
+
 -- why there is none: CATAL is refused, or the first cell that is none
 pub data IsRefusedLibrary (tracks : Bool) (catal : List ℕ) (files : List (List ℕ)) (e : LibError) : Type 0 where
   bad_list : (fault : CatalError) → Refused catal fault → e ≡ refused fault → IsRefusedLibrary tracks catal files e

@@ -14,6 +14,7 @@ mod layout;
 mod library;
 mod load;
 mod make;
+mod tool;
 
 pub use behaviour::read_behaviour;
 pub use error::LibError;
@@ -22,3 +23,4 @@ pub use laws::library_law;
 pub use layout::read_layout;
 pub use library::{check_library, library_status, listed_library, read_library, read_list};
 pub use load::{LibraryFiles, load_library};
+pub use tool::{LibraryTool, WithLibrary};

@@ -5,10 +5,7 @@ use Rattle.ap_io.specs.declared.figure.Figure.{Figure}
 use Rattle.ap_io.specs.ApText.{IsApText}
 use Rattle.ap_io.specs.Refusal.{IsApRefusal}
 use Rattle.cell_model.specs.Library.{Library}
-use Rattle.cell_lib.specs.declared.error.LibError.{LibError}
-use Rattle.cell_lib.proofs.Answering.{refused_library}
-use Rattle.cell_lib.specs.Cells.{OrMemory}
-use Rattle.cell_lib.specs.Library.{IsLibraryOf, IsRefusedLibrary, status_of}
+use Rattle.cell_lib.specs.Library.{IsLibraryOf}
 use Rattle.net_core.specs.Netlist.{Netlist}
 use Rattle.vst_print.specs.declared.error.WriteError.{WriteError}
 use Rattle.vst_print.specs.declared.error.WriteError.TheVariants as writing
@@ -21,12 +18,9 @@ use Rattle.cougar_run.specs.declared.words.CougarCommand.{CougarCommand}
 use Rattle.tool_drive.specs.declared.status.Status.{Status}
 use Rattle.tool_drive.specs.Table.{IsJudged, IsFair, refusal}
 use Rattle.tool_drive.specs.Refusals.{MemoryOr, OfFile, of_file, judged_file, judged}
-use Rattle.cougar_run.specs.Cougar.{no_library, bad_layout, unknown_cell, too_large, many_terminals, shorted, bad_map, Extracts, IsToldOf, IsWriteToldOf}
+use Rattle.cougar_run.specs.Cougar.{bad_layout, unknown_cell, too_large, many_terminals, shorted, bad_map, Extracts, IsToldOf, IsWriteToldOf}
 
 module _ (c : CougarCommand) (source list : List ℕ) (cells : List (List ℕ)) where
-  pub by_library : (e : LibError) → OrMemory (IsRefusedLibrary false list cells) e → IsJudged (Extracts c source list cells) (Err (refusal (status_of e) None))
-  by_library e h = refused_library (Extracts c source list cells) false list cells e h (λ x r. (refl, no_library x r refl))
-
   module _ (l : Library) (library : IsLibraryOf false list cells l) where
     pub by_layout : (e : ReadError) (s : Status) → IsApRefusal source e → MemoryOr s (OfFile c.source (λ x. x ≡ e) s) → IsJudged (Extracts c source list cells) (Err (refusal s None))
     by_layout e s h k =

@@ -1,6 +1,5 @@
 -- What `cougar` reads and answers.
 use Rattle.std.specs.Prelude.{◌≡◌, ℕ, ◌-◌, ◌<◌, ◌^◌, Bool, ◌&&◌, true, false, List, [], ◌∷◌, ◌++◌, filter, length, get_or, codes, is_none, None, Some, Result, Ok, Err}
-use Rattle.vlsi_base.specs.declared.fault.FaultKind.{FaultKind}
 use Rattle.vlsi_base.specs.declared.fault.FaultKind.TheVariants as kind
 use Rattle.vlsi_base.specs.declared.fault.Limit.{Limit}
 use Rattle.vlsi_base.specs.declared.name.Name.{Name}
@@ -10,10 +9,9 @@ use Rattle.vlsi_base.specs.Names.{scalar}
 use Rattle.ap_io.specs.declared.figure.Figure.{Figure}
 use Rattle.ap_io.specs.ApText.{IsApText}
 use Rattle.ap_io.specs.Refusal.{IsApRefusal}
-use Rattle.catal.specs.Cells.{cells_in}
 use Rattle.cell_model.specs.Library.{Library}
 use Rattle.cell_lib.specs.declared.error.LibError.{LibError}
-use Rattle.cell_lib.specs.Files.{catal_name, cell_files}
+use Rattle.cell_lib.specs.Files.{with_library}
 use Rattle.cell_lib.specs.Library.{IsLibraryOf, IsRefusedLibrary, status_of}
 use Rattle.cell_model.specs.Layout.{instances_of, shapes}
 use Rattle.cell_pins.specs.Table.{IsTableOf}
@@ -37,15 +35,12 @@ use Rattle.tool_drive.specs.declared.status.Verdict.TheVariants.{Shorted}
 use Rattle.tool_drive.specs.declared.tool.Product.{Product}
 use Rattle.tool_drive.specs.declared.tool.Refusal.{Refusal}
 use Rattle.tool_drive.specs.Lines.{count_line}
-use Rattle.tool_drive.specs.Plan.{Plan, Inputs, limited, large}
-use Rattle.tool_drive.specs.Refusals.{OfFile}
+use Rattle.tool_drive.specs.Plan.{Plan, Inputs, large}
+use Rattle.tool_drive.specs.Refusals.{OfFile, whole_fault}
 
 -- SOURCE, then CATAL, and then the files of the cells that CATAL uses
 abbrev pub cougar_plan : CougarCommand → Plan
-cougar_plan c = record {
-  first = large c.source ∷ limited (catal_name c.library) ∷ [];
-  more = λ read. cell_files c.library (cells_in (get_or read 1 []));
-}
+cougar_plan c = with_library (large c.source ∷ []) c.library
 
 abbrev pub netlist_name : List ℕ → List ℕ
 netlist_name out = out ++ codes ".vst"
@@ -86,32 +81,28 @@ pub record IsExtraction (c : CougarCommand) (source catal : List ℕ) (cells : L
   pub named : CanBeNamed n
   pub written : IsWrittenAs c.out l n p
 
--- a fault of the whole file stands on line 1
-abbrev pub fault_of : CougarCommand → FaultKind → List Name → Status
-fault_of c k names = status.Source c.source (record { line = 1; kind = k; names = names })
-
 -- What is refused, in this order: the library, the layout, an instance of a cell that the library hasn't, 2^32 shapes or
 -- more, then 2^32 ports and pins or more, joined ports, and names that can't be written.
-pub data IsRefused (c : CougarCommand) (source catal : List ℕ) (cells : List (List ℕ)) (s : Status) : Type 0 where
-  no_library : (e : LibError) → IsRefusedLibrary false catal cells e → s ≡ status_of e → IsRefused c source catal cells s
-  bad_layout : (l : Library) → IsLibraryOf false catal cells l → OfFile c.source (IsApRefusal source) s → IsRefused c source catal cells s
+pub data IsCougarRefusal (c : CougarCommand) (source catal : List ℕ) (cells : List (List ℕ)) (s : Status) : Type 0 where
+  no_library : (e : LibError) → IsRefusedLibrary false catal cells e → s ≡ status_of e → IsCougarRefusal c source catal cells s
+  bad_layout : (l : Library) → IsLibraryOf false catal cells l → OfFile c.source (IsApRefusal source) s → IsCougarRefusal c source catal cells s
   unknown_cell : (l : Library) (f : Figure) (model : List ℕ) → IsLibraryOf false catal cells l → IsApText source f
-      → IsFirstUnknown (instances_of f.items) l model → s ≡ fault_of c kind.UnknownCell (scalar model ∷ []) → IsRefused c source catal cells s
+      → IsFirstUnknown (instances_of f.items) l model → s ≡ whole_fault c.source kind.UnknownCell (scalar model ∷ []) → IsCougarRefusal c source catal cells s
   too_large : (l : Library) (f : Figure) (limit : Limit) → IsLibraryOf false catal cells l → IsApText source f
-      → AreKnown (instances_of f.items) l → IsTooLarge f.items l limit → s ≡ status.Limit limit → IsRefused c source catal cells s
+      → AreKnown (instances_of f.items) l → IsTooLarge f.items l limit → s ≡ status.Limit limit → IsCougarRefusal c source catal cells s
   many_terminals : (l : Library) (f : Figure) (limit : Limit) → IsLibraryOf false catal cells l → IsApText source f
       → AreKnown (instances_of f.items) l → length (shapes f.items l) < 2 ^ 32 → HasTooManyTerminals f.items l limit
-      → s ≡ status.Limit limit → IsRefused c source catal cells s
+      → s ≡ status.Limit limit → IsCougarRefusal c source catal cells s
   shorted : (l : Library) (f : Figure) (a b : Name) (chain : List Step) → IsLibraryOf false catal cells l → IsApText source f
       → AreKnown (instances_of f.items) l → CanBeNumbered f.items l → IsLeastShort f.items l a b → IsChainOf (shapes f.items l) a b chain
-      → s ≡ status.No (Shorted a b) → IsRefused c source catal cells s
+      → s ≡ status.No (Shorted a b) → IsCougarRefusal c source catal cells s
   bad_map : (l : Library) (f : Figure) (n : Netlist) → IsLibraryOf false catal cells l → IsApText source f → IsExtracted f l n
-      → CanBeNumbered f.items l → NoShort f.items l → IsBadMap n → s ≡ fault_of c kind.BadMap [] → IsRefused c source catal cells s
+      → CanBeNumbered f.items l → NoShort f.items l → IsBadMap n → s ≡ whole_fault c.source kind.BadMap [] → IsCougarRefusal c source catal cells s
 
 -- the netlist is written and the report is printed, or one of these refusals
 abbrev pub Extracts : CougarCommand → List ℕ → List ℕ → List (List ℕ) → Result Product Refusal → Type 0
 Extracts c source catal cells (Ok p) = IsExtraction c source catal cells p
-Extracts c source catal cells (Err r) = (r.part ≡ None) × IsRefused c source catal cells r.status
+Extracts c source catal cells (Err r) = (r.part ≡ None) × IsCougarRefusal c source catal cells r.status
 
 abbrev pub cougar_answers : CougarCommand → Inputs → Result Product Refusal → Type 0
 cougar_answers c i r = Extracts c (get_or i.first 0 []) (get_or i.first 1 []) i.more r
@@ -123,10 +114,10 @@ IsWritable l n = (table : List ModelPins) → IsTableOf l true table → IsPinTa
 -- how a refusal of extraction is told, and how one of writing is
 abbrev pub IsToldOf : CougarCommand → ExtractError → Status → Type 0
 IsToldOf c extracting.Memory s = ⊥
-IsToldOf c (extracting.UnknownCell model) s = s ≡ fault_of c kind.UnknownCell (scalar model ∷ [])
+IsToldOf c (extracting.UnknownCell model) s = s ≡ whole_fault c.source kind.UnknownCell (scalar model ∷ [])
 IsToldOf c (extracting.Limit limit) s = s ≡ status.Limit limit
 IsToldOf c (extracting.Shorted a b chain) s = s ≡ status.No (Shorted a b)
 
 abbrev pub IsWriteToldOf : CougarCommand → WriteError → Status → Type 0
 IsWriteToldOf c writing.Memory s = ⊥
-IsWriteToldOf c writing.BadMap s = s ≡ fault_of c kind.BadMap []
+IsWriteToldOf c writing.BadMap s = s ≡ whole_fault c.source kind.BadMap []

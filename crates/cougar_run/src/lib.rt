@@ -11,4 +11,4 @@ mod words;
 
 pub use cougar::Cougar;
 pub use laws::cougar_law;
-pub use words::{COUGAR_ENTRY, CougarCommand, read_cougar};
+pub use words::{COUGAR_ENTRY, CougarCommand};

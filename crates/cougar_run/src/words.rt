@@ -1,11 +1,8 @@
 // The words of `cougar`, and what they ask of it.
-ghost use Rattle.std.specs.Prelude.{◌≡◌, Some, None, IfOk, IsErrOf};
-ghost use Rattle.tool_words.specs.declared.words.WordsError.TheVariants.{Usage};
-ghost use Rattle.cougar_run.specs.Words.{cougar_from, cougar_of};
 
 use std::alloc::Global;
-use tool_words::{Entry, LIBRARY, OUT, Values, WordsError, source, taken, text, texts};
-use vlsi_base::{FileName, Text};
+use tool_words::{Entry, FromValues, LIBRARY, OUT, Values, WordsError, source, text};
+use vlsi_base::FileName;
 
 /// What `cougar` is asked to do: to take the netlist out of a layout of the library's cells.
 #[derive(Drop)]
@@ -25,23 +22,22 @@ pub const COUGAR_ENTRY: Entry = Entry {
     settings: &[LIBRARY, OUT],
 };
 
-fn command(alloc: Global, values: &Values) -> Result<CougarCommand, WordsError>
-    ensures ok { IfOk result (λ c. cougar_from values.now ≡ Some c) }
-    ensures usage { IsErrOf result Usage → cougar_from values.now ≡ None }
-{
-    Ok(CougarCommand {
-        source: source(alloc, values, COUGAR_ENTRY.endings)?,
-        library: text(alloc, values, LIBRARY)?,
-        out: text(alloc, values, OUT)?,
-    })
-}
+impl FromValues for CougarCommand {
+    ghost use Rattle.cougar_run.specs.Words.{cougar, cougar_from};
 
-/// What the words behind `cougar` ask of it. `Usage` exactly where they are nothing of this form. It takes memory for what it answers.
-pub fn read_cougar(alloc: Global, words: &[Text]) -> Result<CougarCommand, WordsError>
-    ensures ok { IfOk result (λ c. cougar_of words.now ≡ Some c) }
-    ensures usage { IsErrOf result Usage → cougar_of words.now ≡ None }
-{
-    let texts = texts(alloc, words)?;
-    let values = taken(alloc, COUGAR_ENTRY, texts.as_slice())?;
-    command(alloc, &values)
+    ghost called = { cougar };
+
+    ghost asked = { cougar_from };
+
+    fn entry() -> Entry {
+        COUGAR_ENTRY
+    }
+
+    fn from_values(alloc: Global, values: &Values) -> Result<Self, WordsError> {
+        Ok(CougarCommand {
+            source: source(alloc, values, COUGAR_ENTRY.endings)?,
+            library: text(alloc, values, LIBRARY)?,
+            out: text(alloc, values, OUT)?,
+        })
+    }
 }

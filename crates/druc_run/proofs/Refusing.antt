@@ -6,10 +6,7 @@ use Rattle.ap_io.specs.ApText.{IsApText}
 use Rattle.ap_io.specs.Refusal.{IsApRefusal}
 use Rattle.cell_model.specs.Library.{Library}
 use Rattle.cell_model.specs.Layout.{instances_of, shapes}
-use Rattle.cell_lib.specs.declared.error.LibError.{LibError}
-use Rattle.cell_lib.proofs.Answering.{refused_library}
-use Rattle.cell_lib.specs.Cells.{OrMemory}
-use Rattle.cell_lib.specs.Library.{IsLibraryOf, IsRefusedLibrary, status_of}
+use Rattle.cell_lib.specs.Library.{IsLibraryOf}
 use Rattle.net_meaning.specs.Breaches.{Breaches}
 use Rattle.cougar_extract.specs.Extracted.{AreKnown}
 use Rattle.druc_rules.specs.declared.breach.Breach.{Breach}
@@ -22,12 +19,9 @@ use Rattle.tool_drive.specs.declared.tool.Product.{Product}
 use Rattle.tool_drive.specs.declared.tool.Refusal.{Refusal}
 use Rattle.tool_drive.specs.Table.{IsJudged, IsFair, refusal}
 use Rattle.tool_drive.specs.Refusals.{MemoryOr, OfFile, of_file, judged_file, judged, fair_then}
-use Rattle.druc_run.specs.Druc.{AreListed, no_library, bad_layout, unknown_cell, too_large, broken, Checks, IsToldOf, IsAnswerOf}
+use Rattle.druc_run.specs.Druc.{AreListed, bad_layout, unknown_cell, too_large, broken, Checks, IsToldOf, IsAnswerOf}
 
 module _ (c : DrucCommand) (source list : List ℕ) (cells : List (List ℕ)) where
-  pub by_library : (e : LibError) → OrMemory (IsRefusedLibrary false list cells) e → IsJudged (Checks c source list cells) (Err (refusal (status_of e) None))
-  by_library e h = refused_library (Checks c source list cells) false list cells e h (λ x r. (refl, no_library x r refl))
-
   module _ (l : Library) (library : IsLibraryOf false list cells l) where
     pub by_layout : (e : ReadError) (s : Status) → IsApRefusal source e → MemoryOr s (OfFile c.source (λ x. x ≡ e) s) → IsJudged (Checks c source list cells) (Err (refusal s None))
     by_layout e s h k =

@@ -1,18 +1,15 @@
 -- What `druc` reads and answers.
 use Rattle.std.specs.Prelude.{◌≡◌, ℕ, ◌<◌, ◌^◌, List, [], ◌∷◌, ◌++◌, map, length, get_or, false, None, Result, Ok, Err}
-use Rattle.vlsi_base.specs.declared.fault.FaultKind.{FaultKind}
 use Rattle.vlsi_base.specs.declared.fault.FaultKind.TheVariants as kind
 use Rattle.vlsi_base.specs.declared.fault.Limit.{Limit}
-use Rattle.vlsi_base.specs.declared.name.Name.{Name}
 use Rattle.vlsi_base.specs.Names.{scalar}
 use Rattle.ap_io.specs.declared.figure.Figure.{Figure}
 use Rattle.ap_io.specs.ApText.{IsApText}
 use Rattle.ap_io.specs.Refusal.{IsApRefusal}
-use Rattle.catal.specs.Cells.{cells_in}
 use Rattle.cell_model.specs.Library.{Library}
 use Rattle.cell_model.specs.Layout.{instances_of, shapes}
 use Rattle.cell_lib.specs.declared.error.LibError.{LibError}
-use Rattle.cell_lib.specs.Files.{catal_name, cell_files}
+use Rattle.cell_lib.specs.Files.{with_library}
 use Rattle.cell_lib.specs.Library.{IsLibraryOf, IsRefusedLibrary, status_of}
 use Rattle.net_meaning.specs.Breaches.{Breaches}
 use Rattle.cougar_extract.specs.Extracted.{AreKnown}
@@ -27,16 +24,13 @@ use Rattle.tool_drive.specs.declared.status.Status.TheVariants as status
 use Rattle.tool_drive.specs.declared.status.Verdict.TheVariants.{Broken}
 use Rattle.tool_drive.specs.declared.tool.Product.{Product}
 use Rattle.tool_drive.specs.declared.tool.Refusal.{Refusal}
-use Rattle.tool_drive.specs.Plan.{Plan, Inputs, limited, large}
-use Rattle.tool_drive.specs.Refusals.{OfFile}
+use Rattle.tool_drive.specs.Plan.{Plan, Inputs, large}
+use Rattle.tool_drive.specs.Refusals.{OfFile, whole_fault}
 use Rattle.druc_run.specs.Report.{report}
 
 -- SOURCE, then CATAL, and then the files of the cells that CATAL uses
 abbrev pub druc_plan : DrucCommand → Plan
-druc_plan c = record {
-  first = large c.source ∷ limited (catal_name c.library) ∷ [];
-  more = λ read. cell_files c.library (cells_in (get_or read 1 []));
-}
+druc_plan c = with_library (large c.source ∷ []) c.library
 
 -- library and layout are read, the model of each instance is in the library, the shapes are fewer than 2^32, and these are the
 -- layout's breaches
@@ -56,26 +50,22 @@ pub record IsWithoutBreach (c : DrucCommand) (source catal : List ℕ) (cells : 
   pub file : p.file ≡ None
   pub text : p.text ≡ report [] ++ 10 ∷ []
 
--- a fault of the whole file stands on line 1
-abbrev pub fault_of : DrucCommand → FaultKind → List Name → Status
-fault_of c k names = status.Source c.source (record { line = 1; kind = k; names = names })
-
 -- What is refused, in this order: the library, the layout, an instance of a cell that the library hasn't, 2^32 shapes or more,
 -- and a layout that has breaches, which are listed.
-pub data IsRefused (c : DrucCommand) (source catal : List ℕ) (cells : List (List ℕ)) (s : Status) : Type 0 where
-  no_library : (e : LibError) → IsRefusedLibrary false catal cells e → s ≡ status_of e → IsRefused c source catal cells s
-  bad_layout : (l : Library) → IsLibraryOf false catal cells l → OfFile c.source (IsApRefusal source) s → IsRefused c source catal cells s
+pub data IsDrucRefusal (c : DrucCommand) (source catal : List ℕ) (cells : List (List ℕ)) (s : Status) : Type 0 where
+  no_library : (e : LibError) → IsRefusedLibrary false catal cells e → s ≡ status_of e → IsDrucRefusal c source catal cells s
+  bad_layout : (l : Library) → IsLibraryOf false catal cells l → OfFile c.source (IsApRefusal source) s → IsDrucRefusal c source catal cells s
   unknown_cell : (l : Library) (f : Figure) (model : List ℕ) → IsLibraryOf false catal cells l → IsApText source f
-      → IsFirstUnknown (instances_of f.items) l model → s ≡ fault_of c kind.UnknownCell (scalar model ∷ []) → IsRefused c source catal cells s
+      → IsFirstUnknown (instances_of f.items) l model → s ≡ whole_fault c.source kind.UnknownCell (scalar model ∷ []) → IsDrucRefusal c source catal cells s
   too_large : (l : Library) (f : Figure) (limit : Limit) → IsLibraryOf false catal cells l → IsApText source f
-      → AreKnown (instances_of f.items) l → IsTooLarge f.items l limit → s ≡ status.Limit limit → IsRefused c source catal cells s
+      → AreKnown (instances_of f.items) l → IsTooLarge f.items l limit → s ≡ status.Limit limit → IsDrucRefusal c source catal cells s
   broken : (found : List Breach) → AreListed source catal cells found → 0 < length found → s ≡ status.No (Broken (report found))
-      → IsRefused c source catal cells s
+      → IsDrucRefusal c source catal cells s
 
 -- there is no breach, or one of these refusals
 abbrev pub Checks : DrucCommand → List ℕ → List ℕ → List (List ℕ) → Result Product Refusal → Type 0
 Checks c source catal cells (Ok p) = IsWithoutBreach c source catal cells p
-Checks c source catal cells (Err r) = (r.part ≡ None) × IsRefused c source catal cells r.status
+Checks c source catal cells (Err r) = (r.part ≡ None) × IsDrucRefusal c source catal cells r.status
 
 abbrev pub druc_answers : DrucCommand → Inputs → Result Product Refusal → Type 0
 druc_answers c i r = Checks c (get_or i.first 0 []) (get_or i.first 1 []) i.more r
@@ -83,7 +73,7 @@ druc_answers c i r = Checks c (get_or i.first 0 []) (get_or i.first 1 []) i.more
 -- how a refusal of the rules' check is told
 abbrev pub IsToldOf : DrucCommand → DrucError → Status → Type 0
 IsToldOf c error.Memory s = ⊥
-IsToldOf c (error.UnknownCell model) s = s ≡ fault_of c kind.UnknownCell (scalar model ∷ [])
+IsToldOf c (error.UnknownCell model) s = s ≡ whole_fault c.source kind.UnknownCell (scalar model ∷ [])
 IsToldOf c (error.Limit limit) s = s ≡ status.Limit limit
 
 -- what is answered of breaches that were found

@@ -1,18 +1,21 @@
 // `druc` as a tool: what it reads, and what it answers.
-ghost use Rattle.std.specs.Prelude.{◌≡◌, ◌∷◌, []};
-ghost use Rattle.vlsi_base.specs.Names.{scalar};
+ghost use Rattle.std.specs.Prelude.{ℕ, List, false};
+ghost use Rattle.cell_lib.specs.Library.{IsLibraryOf};
 ghost use Rattle.tool_drive.specs.Refusals.{MemoryOr};
 ghost use Rattle.tool_drive.specs.Table.{IsJudged};
-ghost use Rattle.druc_run.specs.Druc.{fault_of, IsToldOf, IsAnswerOf, Checks};
+ghost use Rattle.druc_run.specs.Druc.{IsToldOf, IsAnswerOf, Checks};
 
 use crate::report::report;
 use crate::words::DrucCommand;
 use ap_io::{read_ap, what_is_read_is_a_figure};
-use cell_lib::{catal_file, library_status, named_files, read_library};
+use cell_checks::Library;
+use cell_lib::LibraryTool;
 use druc_rules::{Breach, DrucError, Rules, broken, standard_rules_law};
 use std::alloc::{AllocError, Global};
-use tool_drive::{Product, Refusal, Status, Tool, Verdict, Wanted, bytes_at, refused};
-use vlsi_base::{FaultKind, FileBytes, InputFault, Name, Names, Text};
+use tool_drive::{
+    Product, Refusal, Status, Verdict, Wanted, bytes_at, refused, unknown_cell,
+};
+use vlsi_base::{FileBytes, FileName};
 
 /// `druc`, with what it is asked: it prints a line for each breach of the rules in the layout in SOURCE, and then `breaches` and how
 /// many there are.
@@ -26,34 +29,13 @@ pub struct Druc<'a> {
     pub command: &'a DrucCommand,
 }
 
-// The status of an instance whose cell isn't in the library.
-fn unknown_cell(alloc: Global, command: &DrucCommand, model: Text) -> Status
-    ensures { MemoryOr result (result ≡ fault_of command.now FaultKind.UnknownCell (scalar model ∷ [])) }
-{
-    let mut names = Vec::new(alloc);
-    if names.push(Name::scalar(model)).is_err() {
-        return Status::Memory;
-    }
-    match command.source.copy(alloc) {
-        Ok(file) => Status::Source {
-            file,
-            fault: InputFault {
-                line: 1,
-                kind: FaultKind::UnknownCell,
-                names: Names::new(names),
-            },
-        },
-        Err(_) => Status::Memory,
-    }
-}
-
 // How a refusal is told.
 fn druc_status(alloc: Global, command: &DrucCommand, error: DrucError) -> Status
     ensures { MemoryOr result (IsToldOf command.now error result) }
 {
     match error {
         DrucError::Memory => Status::Memory,
-        DrucError::UnknownCell(model) => unknown_cell(alloc, command, model),
+        DrucError::UnknownCell(model) => unknown_cell(alloc, &command.source, model),
         DrucError::Limit(limit) => Status::Limit(limit),
     }
 }
@@ -75,64 +57,59 @@ fn answer(alloc: Global, command: &DrucCommand, found: &[Breach]) -> Result<Prod
     })
 }
 
-// What the texts come to.
+// What the layout comes to.
 fn checked(
     alloc: Global,
     command: &DrucCommand,
+    library: &Library,
     source: &[u8],
-    catal: &[u8],
-    cells: &[FileBytes],
 ) -> Result<Product, Refusal>
-    ensures { IsJudged (Checks command.now source.now catal.now cells.now) result }
+    ensures { (catal : List ℕ) (cells : List (List ℕ)) → IsLibraryOf false catal cells library.now
+        → IsJudged (Checks command.now source.now catal cells) result }
 {
     // What is read has its checks behind it.
     what_is_read_is_a_figure();
     standard_rules_law();
-    let library = match read_library(alloc, catal, cells, false) {
-        Ok(library) => library,
-        Err(error) => return Err(Refusal::plain(library_status(error))),
-    };
     let figure = match read_ap(alloc, source) {
         Ok(figure) => figure,
         Err(error) => return Err(Refusal::plain(refused(alloc, &command.source, error))),
     };
-    let found = match broken(alloc, &figure, &library, &Rules::standard()) {
+    let found = match broken(alloc, &figure, library, &Rules::standard()) {
         Ok(found) => found,
         Err(error) => return Err(Refusal::plain(druc_status(alloc, command, error))),
     };
     answer(alloc, command, found.as_slice())
 }
 
-impl Tool for Druc<'_> {
-    ghost use Rattle.druc_run.specs.Druc.{druc_plan, druc_answers};
+impl LibraryTool for Druc<'_> {
+    ghost use Rattle.std.specs.Prelude.{refl, [], ◌∷◌};
+    ghost use Rattle.tool_drive.specs.Plan.{large};
+    ghost use Rattle.druc_run.specs.Druc.{druc_answers, no_library};
 
-    ghost plan = { λ t. druc_plan t.command.now };
+    ghost files = { λ t. large t.command.now.source ∷ [] };
+
+    ghost folder = { λ t. t.command.now.library };
 
     ghost answers = { λ t. druc_answers t.command.now };
 
-    fn first(&self, alloc: Global) -> Result<Vec<Wanted>, AllocError> {
+    fn own_files(&self, alloc: Global) -> Result<Vec<Wanted>, AllocError> {
         let mut wanted = Vec::new(alloc);
         wanted.push(Wanted::large(self.command.source.copy(alloc)?))?;
-        wanted.push(catal_file(alloc, &self.command.library)?)?;
         Ok(wanted)
     }
 
-    fn more(&self, alloc: Global, first: &[FileBytes]) -> Result<Vec<Wanted>, AllocError> {
-        named_files(alloc, &self.command.library, bytes_at(first, 1))
+    fn library_folder(&self) -> &FileName {
+        &self.command.library
     }
 
-    fn judge(
+    fn judge_with(
         &self,
         alloc: Global,
+        library: &Library,
         first: &[FileBytes],
-        more: &[FileBytes],
     ) -> Result<Product, Refusal> {
-        checked(
-            alloc,
-            self.command,
-            bytes_at(first, 0),
-            bytes_at(first, 1),
-            more,
-        )
+        checked(alloc, self.command, library, bytes_at(first, 0))
     }
+
+    ghost refuses = { λ t first more e h. (refl, no_library e h refl) };
 }

@@ -9,4 +9,4 @@ mod report;
 mod words;
 
 pub use druc::Druc;
-pub use words::{DRUC_ENTRY, DrucCommand, read_druc};
+pub use words::{DRUC_ENTRY, DrucCommand};

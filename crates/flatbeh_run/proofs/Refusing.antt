@@ -1,15 +1,12 @@
 -- From the refusals of readers and of the netlist's machine to the tool's.
-use Rattle.std.proofs.Common.{◌≡◌, ◌<◌, ◌≤◌, ◌^◌, ℕ, true, List, length, None, Err, false, sym, ap, ◌∙◌, subst, refl}
+use Rattle.std.proofs.Common.{◌≡◌, ◌<◌, ◌≤◌, ◌^◌, ℕ, true, List, [], ◌∷◌, length, None, Err, false, sym, ap, ◌∙◌, subst, refl}
 use Rattle.vlsi_base.specs.declared.fault.FaultKind.TheVariants as kind
 use Rattle.vlsi_base.specs.declared.fault.LimitKind.TheVariants.{Bits}
 use Rattle.vlsi_base.specs.declared.fault.ReadError.{ReadError}
 use Rattle.vlsi_base.specs.declared.name.Name.{Name}
 use Rattle.machine_core.specs.Machine.{Machine}
 use Rattle.cell_model.specs.Library.{Library}
-use Rattle.cell_lib.specs.declared.error.LibError.{LibError}
-use Rattle.cell_lib.proofs.Answering.{refused_library}
-use Rattle.cell_lib.specs.Cells.{OrMemory}
-use Rattle.cell_lib.specs.Library.{IsLibraryOf, IsRefusedLibrary, status_of}
+use Rattle.cell_lib.specs.Library.{IsLibraryOf}
 use Rattle.cell_pins.specs.Table.{IsTableOf}
 use Rattle.net_core.specs.declared.pins.ModelPins.{ModelPins}
 use Rattle.net_core.specs.Netlist.{Netlist}
@@ -23,13 +20,10 @@ use Rattle.flatbeh_run.specs.declared.words.FlatbehCommand.{FlatbehCommand}
 use Rattle.tool_drive.specs.declared.status.Status.{Status}
 use Rattle.tool_drive.specs.declared.status.Status.TheVariants as status
 use Rattle.tool_drive.specs.Table.{IsJudged, IsFair, refusal}
-use Rattle.tool_drive.specs.Refusals.{MemoryOr, OfFile, of_file, judged_file, judged}
-use Rattle.flatbeh_run.specs.Flatbeh.{HasVectorClock, fault_of, no_library, bad_netlist, no_behaviour, twice, many_bits, many_names, vector_clock, names_count, Flattens, IsToldOf}
+use Rattle.tool_drive.specs.Refusals.{whole_fault, MemoryOr, OfFile, of_file, judged_file, judged}
+use Rattle.flatbeh_run.specs.Flatbeh.{HasVectorClock, bad_netlist, no_behaviour, twice, many_bits, many_names, vector_clock, names_count, Flattens, IsToldOf}
 
 module _ (c : FlatbehCommand) (source list : List ℕ) (cells : List (List ℕ)) where
-  pub by_library : (e : LibError) → OrMemory (IsRefusedLibrary false list cells) e → IsJudged (Flattens c source list cells) (Err (refusal (status_of e) None))
-  by_library e h = refused_library (Flattens c source list cells) false list cells e h (λ x r. (refl, no_library x r refl))
-
   module _ (l : Library) (table : List ModelPins) (library : IsLibraryOf false list cells l) (pins : IsTableOf l true table) where
     pub by_netlist : (e : ReadError) (s : Status) → IsVstRefusal source table e → MemoryOr s (OfFile c.source (λ x. x ≡ e) s) → IsJudged (Flattens c source list cells) (Err (refusal s None))
     by_netlist e s h k =
@@ -59,9 +53,9 @@ module _ (c : FlatbehCommand) (source list : List ℕ) (cells : List (List ℕ))
             (sym (e ∙ ap (λ (k : ℕ). status.Limit (record { which = Bits; reached = k })) same))
             (refl, many_names l table n m (record { library = library; pins = pins; netlist = netlist }) plain apart few is numbered many refl)
 
-        pub by_clock : names_count m < 2 ^ 32 → (name : Name) (s : Status) → HasVectorClock m name → MemoryOr s (s ≡ fault_of c kind.ClockUse name) → IsJudged (Flattens c source list cells) (Err (refusal s None))
+        pub by_clock : names_count m < 2 ^ 32 → (name : Name) (s : Status) → HasVectorClock m name → MemoryOr s (s ≡ whole_fault c.source kind.ClockUse (name ∷ [])) → IsJudged (Flattens c source list cells) (Err (refusal s None))
         by_clock countable name s h k =
-            judged (Flattens c source list cells) (λ t. t ≡ fault_of c kind.ClockUse name)
+            judged (Flattens c source list cells) (λ t. t ≡ whole_fault c.source kind.ClockUse (name ∷ []))
             (λ t e.
             subst (λ (s : Status). IsFair s None (Flattens c source list cells (Err (refusal s None)))) (sym e)
             (refl, vector_clock l table n m name (record { library = library; pins = pins; netlist = netlist }) plain apart few is countable h refl)) s k

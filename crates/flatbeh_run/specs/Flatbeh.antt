@@ -1,6 +1,5 @@
 -- What `flatbeh` reads and answers.
 use Rattle.std.specs.Prelude.{◌≡◌, ℕ, ◌<◌, ◌≤◌, ◌+◌, ◌-◌, ◌^◌, min, length, true, false, List, [], ◌∷◌, ◌++◌, get_or, codes, None, Some, Result, Ok, Err}
-use Rattle.vlsi_base.specs.declared.fault.FaultKind.{FaultKind}
 use Rattle.vlsi_base.specs.declared.fault.FaultKind.TheVariants as kind
 use Rattle.vlsi_base.specs.declared.fault.LimitKind.TheVariants.{Bits}
 use Rattle.vlsi_base.specs.declared.name.Name.{Name}
@@ -8,10 +7,9 @@ use Rattle.vlsi_base.specs.Names.{scalar}
 use Rattle.machine_core.specs.Machine.{Machine}
 use Rattle.machine_core.specs.Size.{machine_size}
 use Rattle.machine_core.specs.Checked.{IsChecked}
-use Rattle.catal.specs.Cells.{cells_in}
 use Rattle.cell_model.specs.Library.{Library}
 use Rattle.cell_lib.specs.declared.error.LibError.{LibError}
-use Rattle.cell_lib.specs.Files.{catal_name, cell_files}
+use Rattle.cell_lib.specs.Files.{with_library}
 use Rattle.cell_lib.specs.Library.{IsLibraryOf, IsRefusedLibrary, status_of}
 use Rattle.cell_pins.specs.Table.{IsTableOf}
 use Rattle.net_core.specs.declared.pins.ModelPins.{ModelPins}
@@ -32,15 +30,12 @@ use Rattle.tool_drive.specs.declared.status.Verdict.TheVariants.{NoBehaviour}
 use Rattle.tool_drive.specs.declared.tool.Product.{Product}
 use Rattle.tool_drive.specs.declared.tool.Refusal.{Refusal}
 use Rattle.tool_drive.specs.Lines.{count_line}
-use Rattle.tool_drive.specs.Plan.{Plan, Inputs, limited, large}
-use Rattle.tool_drive.specs.Refusals.{OfFile}
+use Rattle.tool_drive.specs.Plan.{Plan, Inputs, large}
+use Rattle.tool_drive.specs.Refusals.{OfFile, whole_fault}
 
 -- SOURCE, CATAL, and then the files of the cells that CATAL uses
 abbrev pub flatbeh_plan : FlatbehCommand → Plan
-flatbeh_plan c = record {
-  first = large c.source ∷ limited (catal_name c.library) ∷ [];
-  more = λ read. cell_files c.library (cells_in (get_or read 1 []));
-}
+flatbeh_plan c = with_library (large c.source ∷ []) c.library
 
 -- a machine's names and ports, which a text has to number
 abbrev pub names_count : Machine → ℕ
@@ -86,36 +81,32 @@ pub record HasVectorClock (m : Machine) (name : Name) : Type 0 where
   pub clock : m.clock ≡ Some name
   pub bit : name.bit ≡ None → ⊥
 
--- a fault of the whole file stands on line 1
-abbrev pub fault_of : FlatbehCommand → FaultKind → Name → Status
-fault_of c k name = status.Source c.source (record { line = 1; kind = k; names = name ∷ [] })
-
 -- What is refused, in this order: the library, the netlist, an instance that is neither a gate nor a plain flip-flop, a flip-flop with
 -- the text of a port, a machine of 2^32 bits or more, or with as many names and ports together, and a clock that is a
 -- bit of a vector, which a data-flow text can't have. The machine with more names and ports has no more names than the netlist's
 -- machine has bits: none is padded.
-pub data IsRefused (c : FlatbehCommand) (source catal : List ℕ) (cells : List (List ℕ)) (s : Status) : Type 0 where
-  no_library : (e : LibError) → IsRefusedLibrary false catal cells e → s ≡ status_of e → IsRefused c source catal cells s
+pub data IsFlatbehRefusal (c : FlatbehCommand) (source catal : List ℕ) (cells : List (List ℕ)) (s : Status) : Type 0 where
+  no_library : (e : LibError) → IsRefusedLibrary false catal cells e → s ≡ status_of e → IsFlatbehRefusal c source catal cells s
   bad_netlist : (l : Library) (table : List ModelPins) → IsLibraryOf false catal cells l → IsTableOf l true table
-      → OfFile c.source (IsVstRefusal source table) s → IsRefused c source catal cells s
+      → OfFile c.source (IsVstRefusal source table) s → IsFlatbehRefusal c source catal cells s
   no_behaviour : (l : Library) (table : List ModelPins) (n : Netlist) (model : List ℕ) → AreRead source catal cells l table n
-      → IsFirstOther n l model → s ≡ status.No (NoBehaviour model) → IsRefused c source catal cells s
+      → IsFirstOther n l model → s ≡ status.No (NoBehaviour model) → IsFlatbehRefusal c source catal cells s
   twice : (l : Library) (table : List ModelPins) (n : Netlist) (text : List ℕ) → AreRead source catal cells l table n → IsPlain n l
-      → IsFirstTwice n l text → s ≡ fault_of c kind.Twice (scalar text) → IsRefused c source catal cells s
+      → IsFirstTwice n l text → s ≡ whole_fault c.source kind.Twice (scalar text ∷ []) → IsFlatbehRefusal c source catal cells s
   many_bits : (l : Library) (table : List ModelPins) (n : Netlist) (reached : ℕ) → AreRead source catal cells l table n → IsPlain n l
       → AreApart n l → HasTooManyBits n l reached → s ≡ status.Limit (record { which = Bits; reached = reached })
-      → IsRefused c source catal cells s
+      → IsFlatbehRefusal c source catal cells s
   many_names : (l : Library) (table : List ModelPins) (n : Netlist) (m : Machine) → AreRead source catal cells l table n
       → IsPlain n l → AreApart n l → bits_of n l < 2 ^ 32 → IsFlat n l table m → length m.vars ≤ bits_of n l
-      → 2 ^ 32 ≤ names_count m → s ≡ status.Limit (record { which = Bits; reached = names_count m }) → IsRefused c source catal cells s
+      → 2 ^ 32 ≤ names_count m → s ≡ status.Limit (record { which = Bits; reached = names_count m }) → IsFlatbehRefusal c source catal cells s
   vector_clock : (l : Library) (table : List ModelPins) (n : Netlist) (m : Machine) (name : Name) → AreRead source catal cells l table n
       → IsPlain n l → AreApart n l → bits_of n l < 2 ^ 32 → IsFlat n l table m → names_count m < 2 ^ 32 → HasVectorClock m name
-      → s ≡ fault_of c kind.ClockUse name → IsRefused c source catal cells s
+      → s ≡ whole_fault c.source kind.ClockUse (name ∷ []) → IsFlatbehRefusal c source catal cells s
 
 -- the machine is written and its size is printed, or one of these refusals
 abbrev pub Flattens : FlatbehCommand → List ℕ → List ℕ → List (List ℕ) → Result Product Refusal → Type 0
 Flattens c source catal cells (Ok p) = IsFlattening c source catal cells p
-Flattens c source catal cells (Err r) = (r.part ≡ None) × IsRefused c source catal cells r.status
+Flattens c source catal cells (Err r) = (r.part ≡ None) × IsFlatbehRefusal c source catal cells r.status
 
 abbrev pub flatbeh_answers : FlatbehCommand → Inputs → Result Product Refusal → Type 0
 flatbeh_answers c i r = Flattens c (get_or i.first 0 []) (get_or i.first 1 []) i.more r
@@ -124,5 +115,5 @@ flatbeh_answers c i r = Flattens c (get_or i.first 0 []) (get_or i.first 1 []) i
 abbrev pub IsToldOf : FlatbehCommand → FlatError → Status → Type 0
 IsToldOf c flat.Memory s = ⊥
 IsToldOf c (flat.NoBehaviour model) s = s ≡ status.No (NoBehaviour model)
-IsToldOf c (flat.Twice text) s = s ≡ fault_of c kind.Twice (scalar text)
+IsToldOf c (flat.Twice text) s = s ≡ whole_fault c.source kind.Twice (scalar text ∷ [])
 IsToldOf c (flat.TooManyBits reached) s = s ≡ status.Limit (record { which = Bits; reached = reached })

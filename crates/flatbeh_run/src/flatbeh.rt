@@ -1,21 +1,22 @@
 // `flatbeh` as a tool: what it reads, and what it answers.
-ghost use Rattle.std.specs.Prelude.{◌≡◌, ◌∷◌, [], MatchOption};
-ghost use Rattle.vlsi_base.specs.Names.{scalar};
-ghost use Rattle.tool_drive.specs.Refusals.{MemoryOr};
+ghost use Rattle.std.specs.Prelude.{◌≡◌, ◌∷◌, [], ℕ, List, MatchOption, false};
+ghost use Rattle.cell_lib.specs.Library.{IsLibraryOf};
+ghost use Rattle.tool_drive.specs.Refusals.{MemoryOr, whole_fault};
 ghost use Rattle.tool_drive.specs.Table.{IsJudged};
 ghost use Rattle.net_flat.specs.Flat.{HasScalarClock};
-ghost use Rattle.flatbeh_run.specs.Flatbeh.{names_count as count_of, fault_of, HasVectorClock, Flattens, IsToldOf};
+ghost use Rattle.flatbeh_run.specs.Flatbeh.{names_count as count_of, HasVectorClock, Flattens, IsToldOf};
 
 use crate::laws::netlist_has_words;
 use crate::product::product;
 use crate::words::FlatbehCommand;
-use cell_lib::{catal_file, library_status, named_files, read_library};
+use cell_checks::Library;
+use cell_lib::LibraryTool;
 use cell_pins::pin_table;
 use machine_core::Machine;
 use net_flat::{FlatError, flatbeh};
 use std::alloc::{AllocError, Global};
-use tool_drive::{Product, Refusal, Status, Tool, Verdict, Wanted, bytes_at, refused};
-use vlsi_base::{FaultKind, FileBytes, InputFault, Limit, LimitKind, Name, Names, Text};
+use tool_drive::{Product, Refusal, Status, Verdict, Wanted, bytes_at, named_fault, refused};
+use vlsi_base::{FaultKind, FileBytes, FileName, Limit, LimitKind, Name};
 use vst_io::read_vst;
 
 /// `flatbeh`, with what it is asked: it makes a machine of the netlist in SOURCE, whose registers have the names of its flip-flops,
@@ -30,28 +31,6 @@ use vst_io::read_vst;
 #[derive(Drop)]
 pub struct Flatbeh<'a> {
     pub command: &'a FlatbehCommand,
-}
-
-// The status of a fault of the whole file, with a name.
-fn fault(alloc: Global, command: &FlatbehCommand, kind: FaultKind, name: Name) -> Status
-    ensures { MemoryOr result (result ≡ fault_of command.now kind name) }
-{
-    let mut names = Vec::new(alloc);
-    match names.push(name) {
-        Ok(()) => {}
-        Err(_) => return Status::Memory,
-    }
-    match command.source.copy(alloc) {
-        Ok(file) => Status::Source {
-            file,
-            fault: InputFault {
-                line: 1,
-                kind,
-                names: Names::new(names),
-            },
-        },
-        Err(_) => Status::Memory,
-    }
 }
 
 // The status of 2^32 or more, so many.
@@ -71,7 +50,9 @@ fn flat_status(alloc: Global, command: &FlatbehCommand, error: FlatError) -> Sta
     match error {
         FlatError::Memory => Status::Memory,
         FlatError::NoBehaviour(model) => Status::No(Verdict::NoBehaviour(model)),
-        FlatError::Twice(text) => fault(alloc, command, FaultKind::Twice, Name::scalar(text)),
+        FlatError::Twice(text) => {
+            named_fault(alloc, &command.source, FaultKind::Twice, Name::scalar(text))
+        }
         FlatError::TooManyBits(reached) => too_many(reached),
     }
 }
@@ -95,36 +76,32 @@ fn vector_clock(machine: &Machine) -> Option<&Name>
 
 // The status of a clock that a text can't have.
 fn clock_status(alloc: Global, command: &FlatbehCommand, name: &Name) -> Status
-    ensures { MemoryOr result (result ≡ fault_of command.now FaultKind.ClockUse name.now) }
+    ensures { MemoryOr result (result ≡ whole_fault command.now.source FaultKind.ClockUse (name.now ∷ [])) }
 {
     match name.copy(alloc) {
-        Ok(name) => fault(alloc, command, FaultKind::ClockUse, name),
+        Ok(name) => named_fault(alloc, &command.source, FaultKind::ClockUse, name),
         Err(_) => Status::Memory,
     }
 }
 
-// What the texts come to.
+// What the netlist comes to.
 fn flattened(
     alloc: Global,
     command: &FlatbehCommand,
+    library: &Library,
     source: &[u8],
-    catal: &[u8],
-    cells: &[FileBytes],
 ) -> Result<Product, Refusal>
-    ensures { IsJudged (Flattens command.now source.now catal.now cells.now) result }
+    ensures { (catal : List ℕ) (cells : List (List ℕ)) → IsLibraryOf false catal cells library.now
+        → IsJudged (Flattens command.now source.now catal cells) result }
 {
     // What is read has names that can be written.
     netlist_has_words();
-    let library = match read_library(alloc, catal, cells, false) {
-        Ok(library) => library,
-        Err(error) => return Err(Refusal::plain(library_status(error))),
-    };
-    let table = pin_table(alloc, &library, true)?;
+    let table = pin_table(alloc, library, true)?;
     let netlist = match read_vst(alloc, source, &table) {
         Ok(netlist) => netlist,
         Err(error) => return Err(Refusal::plain(refused(alloc, &command.source, error))),
     };
-    let machine = match flatbeh(alloc, &netlist, &library) {
+    let machine = match flatbeh(alloc, &netlist, library) {
         Ok(machine) => machine,
         Err(error) => return Err(Refusal::plain(flat_status(alloc, command, error))),
     };
@@ -140,36 +117,35 @@ fn flattened(
     Ok(written)
 }
 
-impl Tool for Flatbeh<'_> {
-    ghost use Rattle.flatbeh_run.specs.Flatbeh.{flatbeh_plan, flatbeh_answers};
+impl LibraryTool for Flatbeh<'_> {
+    ghost use Rattle.std.specs.Prelude.{refl, [], ◌∷◌};
+    ghost use Rattle.tool_drive.specs.Plan.{large};
+    ghost use Rattle.flatbeh_run.specs.Flatbeh.{flatbeh_answers, no_library};
 
-    ghost plan = { λ t. flatbeh_plan t.command.now };
+    ghost files = { λ t. large t.command.now.source ∷ [] };
+
+    ghost folder = { λ t. t.command.now.library };
 
     ghost answers = { λ t. flatbeh_answers t.command.now };
 
-    fn first(&self, alloc: Global) -> Result<Vec<Wanted>, AllocError> {
+    fn own_files(&self, alloc: Global) -> Result<Vec<Wanted>, AllocError> {
         let mut wanted = Vec::new(alloc);
         wanted.push(Wanted::large(self.command.source.copy(alloc)?))?;
-        wanted.push(catal_file(alloc, &self.command.library)?)?;
         Ok(wanted)
     }
 
-    fn more(&self, alloc: Global, first: &[FileBytes]) -> Result<Vec<Wanted>, AllocError> {
-        named_files(alloc, &self.command.library, bytes_at(first, 1))
+    fn library_folder(&self) -> &FileName {
+        &self.command.library
     }
 
-    fn judge(
+    fn judge_with(
         &self,
         alloc: Global,
+        library: &Library,
         first: &[FileBytes],
-        more: &[FileBytes],
     ) -> Result<Product, Refusal> {
-        flattened(
-            alloc,
-            self.command,
-            bytes_at(first, 0),
-            bytes_at(first, 1),
-            more,
-        )
+        flattened(alloc, self.command, library, bytes_at(first, 0))
     }
+
+    ghost refuses = { λ t first more e h. (refl, no_library e h refl) };
 }

@@ -11,4 +11,4 @@ mod words;
 
 pub use flatbeh::Flatbeh;
 pub use laws::flatbeh_law;
-pub use words::{FLATBEH_ENTRY, FlatbehCommand, read_flatbeh};
+pub use words::{FLATBEH_ENTRY, FlatbehCommand};

@@ -22,7 +22,7 @@ use Rattle.tool_drive.specs.declared.status.Status.TheVariants as status
 use Rattle.tool_drive.specs.Table.{IsJudged, IsFair, refusal}
 use Rattle.tool_drive.specs.Refusals.{MemoryOr, OfFile, of_file, memory_then, judged as judged_by}
 use Rattle.flow_run.specs.Origin.{Origin, IsSourceFor, IsSourceRefusal}
-use Rattle.flow_run.specs.Flow.{IsSourceOf, AreRead, IsNoSource, no_list, no_text, over_size, IsUnread, no_source, no_cell, IsRefused, unread, uncovered, over_budget, LaysOut}
+use Rattle.flow_run.specs.Flow.{IsSourceOf, AreRead, IsNoSource, no_list, no_text, over_size, IsUnread, no_source, no_cell, IsFlowRefusal, unread, uncovered, over_budget, LaysOut}
 use Rattle.flow_run.specs.Mapped.{IsMissingIn}
 use Rattle.flow_run.proofs.Judging.{fair_list, fair_library}
 
@@ -72,7 +72,7 @@ fair_source : (c : FlowCommand) (source : List ℕ) (s : Status) (P : Type 0) �
 fair_source c source s P (no_text o) p = fair_text c.source (IsSourceRefusal c source) s P o p
 fair_source c source s P (over_size o m machine big is) p = subst (λ (t : Status). IsFair t None P) (sym is) p
 
-fair : (c : FlowCommand) (source list : List ℕ) (cells : List (List ℕ)) (s : Status) (P : Type 0) → IsRefused c source list cells s → P → IsFair s None P
+fair : (c : FlowCommand) (source list : List ℕ) (cells : List (List ℕ)) (s : Status) (P : Type 0) → IsFlowRefusal c source list cells s → P → IsFair s None P
 fair c source list cells s P (unread (no_list fault r is)) p = subst (λ (t : Status). IsFair t None P) (sym is) (fair_list fault P p)
 fair c source list cells s P (unread (no_source names uses r)) p = fair_source c source s P r p
 fair c source list cells s P (unread (no_cell o m names e h uses first is)) p =
@@ -82,16 +82,16 @@ fair c source list cells s P (over_budget o m l read covered b) p = subst (λ (t
 
 -- ---- to the tool's answer
 
-judged : (c : FlowCommand) (source list : List ℕ) (cells : List (List ℕ)) (s : Status) → MemoryOr s (IsRefused c source list cells s)
+judged : (c : FlowCommand) (source list : List ℕ) (cells : List (List ℕ)) (s : Status) → MemoryOr s (IsFlowRefusal c source list cells s)
     → IsJudged (LaysOut c source list cells) (Err (refusal s None))
-judged c source list cells s h = judged_by (LaysOut c source list cells) (λ t. IsRefused c source list cells t) told s h where
-  told : (t : Status) → IsRefused c source list cells t → IsFair t None (LaysOut c source list cells (Err (refusal t None)))
+judged c source list cells s h = judged_by (LaysOut c source list cells) (λ t. IsFlowRefusal c source list cells t) told s h where
+  told : (t : Status) → IsFlowRefusal c source list cells t → IsFair t None (LaysOut c source list cells (Err (refusal t None)))
   told t k = fair c source list cells t (LaysOut c source list cells (Err (refusal t None))) k (refl, k)
 
 pub by_unread : (c : FlowCommand) (source list : List ℕ) (cells : List (List ℕ)) (s : Status) → MemoryOr s (IsUnread c source list cells s)
     → IsJudged (LaysOut c source list cells) (Err (refusal s None))
 by_unread c source list cells s h =
-    judged c source list cells s (memory_then s (IsUnread c source list cells s) (IsRefused c source list cells s) (λ u. unread u) h)
+    judged c source list cells s (memory_then s (IsUnread c source list cells s) (IsFlowRefusal c source list cells s) (λ u. unread u) h)
 
 pub by_kinds : (c : FlowCommand) (source list : List ℕ) (cells : List (List ℕ)) (o : Origin) (m : Machine) (l : Library) (s : Status)
     → AreRead c source list cells o m l
@@ -103,4 +103,4 @@ pub by_budget : (c : FlowCommand) (source list : List ℕ) (cells : List (List �
     → AreRead c source list cells o m l
     → Covers l m → MemoryOr s (IsBudgetStatus m c.nodes s) → IsJudged (LaysOut c source list cells) (Err (refusal s None))
 by_budget c source list cells o m l s read covered h =
-    judged c source list cells s (memory_then s (IsBudgetStatus m c.nodes s) (IsRefused c source list cells s) (λ b. over_budget o m l read covered b) h)
+    judged c source list cells s (memory_then s (IsBudgetStatus m c.nodes s) (IsFlowRefusal c source list cells s) (λ b. over_budget o m l read covered b) h)

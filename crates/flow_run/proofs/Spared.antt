@@ -20,7 +20,7 @@ use Rattle.tool_drive.specs.Held.{Holds, AreHad}
 use Rattle.tool_drive.specs.Plan.{Inputs, inputs, Reading, got, lacking, long, go_on, limited, held, gather, reading}
 use Rattle.tool_drive.specs.Table.{refusal, ComesTo, Caused}
 use Rattle.flow_run.specs.Origin.{is_fsm}
-use Rattle.flow_run.specs.Flow.{flow_plan, flow_answers, IsRefused, no_list, no_text, over_size, no_source, no_cell, unread, uncovered, over_budget}
+use Rattle.flow_run.specs.Flow.{flow_plan, flow_answers, IsFlowRefusal, no_list, no_text, over_size, no_source, no_cell, unread, uncovered, over_budget}
 use Rattle.flow_run.specs.Generated.{IsFitting, circuit_text, unwritten, laid, with_source, IsForLibrary, SourcesAreSpared}
 use Rattle.flow_run.proofs.Standing.{stood, held_is}
 use Rattle.flow_run.proofs.Circuits.{fits, not_text, is_text, source_read, written_here, held_same}
@@ -65,7 +65,7 @@ of_library c files catal cells h g e s r is = subst (λ (x : Status). IsForLibra
 
 module _ (again : CircuitsAreReadAgain) (written : CircuitsCanBeWritten) where
   refused_so : (c : GenCommand) → IsFitting c → (files : Files) (catal : List ℕ) (cells : List (List ℕ)) → Holds files (catal_name c.flow.library) catal
-      → AreHad files (cell_files c.flow.library (cells_in catal)) cells → (s : Status) → IsRefused c.flow (circuit_text c) catal cells s → IsForLibrary c files s
+      → AreHad files (cell_files c.flow.library (cells_in catal)) cells → (s : Status) → IsFlowRefusal c.flow (circuit_text c) catal cells s → IsForLibrary c files s
   refused_so c fit files catal cells h g s (unread (no_list fault bad is)) = of_library c files catal cells h g (refused fault) s (bad_list fault bad refl) is
   refused_so c fit files catal cells h g s (unread (no_source names uses (no_text bad))) = absurd (not_text again (is_fsm c.flow) c fit (is_text c fit) s bad)
   refused_so c fit files catal cells h g s (unread (no_source names uses (over_size o m machine over is))) =
@@ -84,7 +84,7 @@ module _ (again : CircuitsAreReadAgain) (written : CircuitsCanBeWritten) where
       let stand = stood (with_source old c) c.flow h.first h.more h.first_read h.more_read in
       let same : get_or h.first 0 [] ≡ circuit_text c = held_same old c.flow.source (circuit_text c) (get_or h.first 0 []) stand.source_is in
       refused_so c fit (with_source old c) (get_or h.first 1 []) h.more stand.catal_is stand.cells_are s
-      (subst (λ (source : List ℕ). IsRefused c.flow source (get_or h.first 1 []) h.more s) same h.answered.1)
+      (subst (λ (source : List ℕ). IsFlowRefusal c.flow source (get_or h.first 1 []) h.more s) same h.answered.1)
 
   laid_so : (c : GenCommand) → IsFitting c → (old : Files) (mid now : Outside) → mid.files ≡ Some (with_source old c) → (s : Status)
       → Caused (flow_plan c.flow) (flow_answers c.flow) mid now s → IsForLibrary c (with_source old c) s

@@ -5,12 +5,11 @@ use Rattle.machine_core.specs.Machine.{Machine}
 use Rattle.machine_core.specs.Size.{machine_size}
 use Rattle.catal.specs.declared.error.CatalError.{CatalError}
 use Rattle.catal.specs.Catal.{IsCatal, Refused}
-use Rattle.catal.specs.Cells.{cells_in}
 use Rattle.vlsi_base.specs.declared.kind.Kind.{Kind}
 use Rattle.cell_model.specs.Library.{Library}
 use Rattle.cell_model.specs.Covering.{needed, IsFirstMissing}
 use Rattle.cell_lib.specs.declared.error.LibError.{LibError}
-use Rattle.cell_lib.specs.Files.{catal_name, cell_files}
+use Rattle.cell_lib.specs.Files.{with_library}
 use Rattle.cell_lib.specs.Load.{refused}
 use Rattle.cell_lib.specs.Cells.{sources, IsFirstRefused}
 use Rattle.cell_lib.specs.Library.{IsCell, IsCellRefusal, IsLibraryOf, status_of}
@@ -31,10 +30,7 @@ use Rattle.flow_run.specs.Drawn.{IsDrawnAs}
 
 -- SOURCE, then CATAL, and then the files of the cells that CATAL uses
 abbrev pub flow_plan : FlowCommand → Plan
-flow_plan c = record {
-  first = limited c.source ∷ limited (catal_name c.library) ∷ [];
-  more = λ read. cell_files c.library (cells_in (get_or read 1 []));
-}
+flow_plan c = with_library (limited c.source ∷ []) c.library
 
 -- The source is this machine, which isn't too large.
 pub record IsSourceOf (c : FlowCommand) (source : List ℕ) (o : Origin) (m : Machine) : Type 0 where
@@ -76,17 +72,17 @@ pub data IsUnread (c : FlowCommand) (source catal : List ℕ) (cells : List (Lis
 
 -- Why a source has no layout: something isn't read; or else a kind is the first of those that are asked for which no usable cell has;
 -- or else a root is the first whose diagram is over the budget.
-pub data IsRefused (c : FlowCommand) (source catal : List ℕ) (cells : List (List ℕ)) (s : Status) : Type 0 where
-  unread : IsUnread c source catal cells s → IsRefused c source catal cells s
+pub data IsFlowRefusal (c : FlowCommand) (source catal : List ℕ) (cells : List (List ℕ)) (s : Status) : Type 0 where
+  unread : IsUnread c source catal cells s → IsFlowRefusal c source catal cells s
   uncovered : (o : Origin) (m : Machine) (l : Library) (k : Kind) → AreRead c source catal cells o m l
-      → IsFirstMissing l.cells k (needed (has_registers m)) → s ≡ status.NoCover k → IsRefused c source catal cells s
+      → IsFirstMissing l.cells k (needed (has_registers m)) → s ≡ status.NoCover k → IsFlowRefusal c source catal cells s
   over_budget : (o : Origin) (m : Machine) (l : Library) → AreRead c source catal cells o m l → Covers l m → IsBudgetStatus m c.nodes s
-      → IsRefused c source catal cells s
+      → IsFlowRefusal c source catal cells s
 
 -- the layout is written and the report is printed, or one of these refusals
 abbrev pub LaysOut : FlowCommand → List ℕ → List ℕ → List (List ℕ) → Result Product Refusal → Type 0
 LaysOut c source catal cells (Ok p) = IsLaidOut c source catal cells p
-LaysOut c source catal cells (Err r) = (r.part ≡ None) × IsRefused c source catal cells r.status
+LaysOut c source catal cells (Err r) = (r.part ≡ None) × IsFlowRefusal c source catal cells r.status
 
 abbrev pub flow_answers : FlowCommand → Inputs → Result Product Refusal → Type 0
 flow_answers c i r = LaysOut c (get_or i.first 0 []) (get_or i.first 1 []) i.more r

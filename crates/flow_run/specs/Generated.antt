@@ -26,7 +26,7 @@ use Rattle.tool_drive.specs.Held.{Holds, AreHad}
 use Rattle.tool_drive.specs.Plan.{long, reading}
 use Rattle.tool_drive.specs.Table.{file_limit, Caused, IsComplete}
 use Rattle.flow_run.specs.Origin.{equations}
-use Rattle.flow_run.specs.Flow.{flow_plan, flow_answers, IsWithinNodes, IsRefused}
+use Rattle.flow_run.specs.Flow.{flow_plan, flow_answers, IsWithinNodes, IsFlowRefusal}
 use Rattle.flow_run.specs.Causes.{IsDrawn}
 
 -- What words that spell `gen` ask for: a circuit of 8 to 4,000 gates, and NAME.vbe for SOURCE.
@@ -136,7 +136,7 @@ abbrev pub CircuitsAreNeverRefused : Type 0
 CircuitsAreNeverRefused =
     (c : GenCommand) (catal : List ℕ) (cells : List (List ℕ)) (l : Library) (s : Status)
     → IsFitting c → IsLibraryOf true catal cells l → Covers l (circuit_of c)
-    → IsWithinNodes (circuit_of c) c.flow.nodes → IsRefused c.flow (circuit_text c) catal cells s → ⊥
+    → IsWithinNodes (circuit_of c) c.flow.nodes → IsFlowRefusal c.flow (circuit_text c) catal cells s → ⊥
 
 -- From a run to its headline, to what of its refusals comes, and to an answer of 0.
 abbrev pub RunsHaveHeadlines : Type 0

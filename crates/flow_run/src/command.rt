@@ -3,10 +3,10 @@ ghost use Rattle.std.specs.Prelude.{◌≡◌, Some, None, IfOk, IsErrOf};
 ghost use Rattle.tool_words.specs.declared.words.WordsError.TheVariants.{Usage};
 ghost use Rattle.flow_run.specs.Commands.{command_of};
 
-use flow_words::{FlowCommand, GenCommand, read_flow, read_gen};
+use flow_words::{FlowCommand, GenCommand};
 use std::alloc::Global;
 use tool_run::{Command as ToolCommand, read_command};
-use tool_words::{Words, WordsError, is_same};
+use tool_words::{Words, WordsError, is_same, read_asked};
 
 /// What the words of a command ask for.
 #[derive(Drop)]
@@ -26,10 +26,10 @@ pub fn read_words(alloc: Global, words: &Words) -> Result<Command, WordsError>
         return Err(WordsError::Usage);
     };
     if is_same(b"flow", tool.as_bytes()) {
-        return Ok(Command::Flow(read_flow(alloc, rest)?));
+        return Ok(Command::Flow(read_asked(alloc, rest)?));
     }
     if is_same(b"gen", tool.as_bytes()) {
-        return Ok(Command::Gen(read_gen(alloc, rest)?));
+        return Ok(Command::Gen(read_asked(alloc, rest)?));
     }
     Ok(Command::Tool(read_command(alloc, words)?))
 }

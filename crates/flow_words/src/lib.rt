@@ -4,4 +4,4 @@
 mod words;
 
 pub use tool_words::Encoding;
-pub use words::{FLOW_ENTRY, FlowCommand, GEN_ENTRY, GenCommand, read_flow, read_gen};
+pub use words::{FLOW_ENTRY, FlowCommand, GEN_ENTRY, GenCommand};

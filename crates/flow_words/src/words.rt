@@ -1,14 +1,11 @@
 // The words of `flow` and `gen`, and what they ask of them.
 ghost use Rattle.std.specs.Prelude.{◌≡◌, Some, None, IfOk, IsErrOf};
 ghost use Rattle.tool_words.specs.declared.words.WordsError.TheVariants.{Usage};
-ghost use Rattle.flow_words.specs.Words.{numbers_of, flow_on, flow_from, flow_of, gen_from, gen_of};
+ghost use Rattle.flow_words.specs.Words.{numbers_of, flow_on};
 
 use std::alloc::Global;
-use tool_words::{
-    ENCODING, Encoding, Entry, FANOUT, Form, LIBRARY, NODES, OUT, SEED, Setting, Values,
-    WordsError, encoding_given, number, number_if_given, source, taken, text, texts,
-};
-use vlsi_base::{FileName, Text};
+use tool_words::{ENCODING, Encoding, Entry, FANOUT, Form, FromValues, LIBRARY, NODES, OUT, SEED, Setting, Values, WordsError, encoding_given, number, number_if_given, source, text};
+use vlsi_base::FileName;
 
 /// What `flow` is asked to do: to lay the source out with the cells of the library, in tracks.
 #[derive(Drop)]
@@ -156,42 +153,40 @@ fn flow_with(
     })
 }
 
-fn flow(alloc: Global, values: &Values) -> Result<FlowCommand, WordsError>
-    ensures ok { IfOk result (λ c. flow_from values.now ≡ Some c) }
-    ensures usage { IsErrOf result Usage → flow_from values.now ≡ None }
-{
-    let source = source(alloc, values, FLOW_ENTRY.endings)?;
-    let encoding = encoding_given(values)?;
-    flow_with(alloc, source, encoding, values)
+impl FromValues for FlowCommand {
+    ghost use Rattle.flow_words.specs.Words.{flow, flow_from};
+
+    ghost called = { flow };
+
+    ghost asked = { flow_from };
+
+    fn entry() -> Entry {
+        FLOW_ENTRY
+    }
+
+    fn from_values(alloc: Global, values: &Values) -> Result<Self, WordsError> {
+        let source = source(alloc, values, FLOW_ENTRY.endings)?;
+        let encoding = encoding_given(values)?;
+        flow_with(alloc, source, encoding, values)
+    }
 }
 
-fn generate(alloc: Global, values: &Values) -> Result<GenCommand, WordsError>
-    ensures ok { IfOk result (λ c. gen_from values.now ≡ Some c) }
-    ensures usage { IsErrOf result Usage → gen_from values.now ≡ None }
-{
-    let size = number(values, SIZE)?;
-    let mut source = text(alloc, values, OUT)?;
-    source.append(b".vbe")?;
-    let flow = flow_with(alloc, source, Encoding::Adjacent, values)?;
-    Ok(GenCommand { size, flow })
-}
+impl FromValues for GenCommand {
+    ghost use Rattle.flow_words.specs.Words.{gen, gen_from};
 
-/// What the words behind `flow` ask of it. `Usage` exactly where they are nothing of this form. It takes memory for what it answers.
-pub fn read_flow(alloc: Global, words: &[Text]) -> Result<FlowCommand, WordsError>
-    ensures ok { IfOk result (λ c. flow_of words.now ≡ Some c) }
-    ensures usage { IsErrOf result Usage → flow_of words.now ≡ None }
-{
-    let texts = texts(alloc, words)?;
-    let values = taken(alloc, FLOW_ENTRY, texts.as_slice())?;
-    flow(alloc, &values)
-}
+    ghost called = { gen };
 
-/// What the words behind `gen` ask of it. `Usage` exactly where they are nothing of this form. It takes memory for what it answers.
-pub fn read_gen(alloc: Global, words: &[Text]) -> Result<GenCommand, WordsError>
-    ensures ok { IfOk result (λ c. gen_of words.now ≡ Some c) }
-    ensures usage { IsErrOf result Usage → gen_of words.now ≡ None }
-{
-    let texts = texts(alloc, words)?;
-    let values = taken(alloc, GEN_ENTRY, texts.as_slice())?;
-    generate(alloc, &values)
+    ghost asked = { gen_from };
+
+    fn entry() -> Entry {
+        GEN_ENTRY
+    }
+
+    fn from_values(alloc: Global, values: &Values) -> Result<Self, WordsError> {
+        let size = number(values, SIZE)?;
+        let mut source = text(alloc, values, OUT)?;
+        source.append(b".vbe")?;
+        let flow = flow_with(alloc, source, Encoding::Adjacent, values)?;
+        Ok(GenCommand { size, flow })
+    }
 }

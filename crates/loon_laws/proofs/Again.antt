@@ -19,7 +19,7 @@ use Rattle.loon_run.specs.Laws.{HasUsableCells, NetlistIsDrivable, DrivenIsWrita
 use Rattle.vst_laws.specs.Again.{CanBeSaid, CanBeRead, WrittenIsReadAgain, ReadAgain}
 use Rattle.loon_laws.specs.Meets.{MadeMeetsCondition}
 use Rattle.loon_laws.specs.Again.{ReadMeetsCondition, IsSmall, IsReadAgain, MadeIsReadAgain, LoonIsReadAgain}
-use Rattle.loon_run.proofs.Supplies.{lists_supplies}
+use Rattle.vst_laws.proofs.Supplies.{lists_supplies}
 use Rattle.loon_laws.proofs.Meets.{Known as Kept, cells_after, ports_after}
 
 -- the pins of the usable cells are a table

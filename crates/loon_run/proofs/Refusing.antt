@@ -2,10 +2,7 @@
 use Rattle.std.proofs.Common.{◌≡◌, ℕ, ◌^◌, ◌<◌, ◌≤◌, length, List, None, Err, false, sym, subst, refl}
 use Rattle.vlsi_base.specs.declared.fault.ReadError.{ReadError}
 use Rattle.cell_model.specs.Library.{Library}
-use Rattle.cell_lib.specs.declared.error.LibError.{LibError}
-use Rattle.cell_lib.proofs.Answering.{refused_library}
-use Rattle.cell_lib.specs.Cells.{OrMemory}
-use Rattle.cell_lib.specs.Library.{IsLibraryOf, IsRefusedLibrary, status_of}
+use Rattle.cell_lib.specs.Library.{IsLibraryOf}
 use Rattle.cell_pins.specs.Table.{IsTableOf}
 use Rattle.net_core.specs.declared.pins.ModelPins.{ModelPins}
 use Rattle.net_core.specs.Netlist.{Netlist, terminals}
@@ -18,12 +15,9 @@ use Rattle.loon_run.specs.declared.words.LoonCommand.{LoonCommand}
 use Rattle.tool_drive.specs.declared.status.Status.{Status}
 use Rattle.tool_drive.specs.Table.{IsJudged, IsFair, refusal}
 use Rattle.tool_drive.specs.Refusals.{MemoryOr, OfFile, of_file, judged_file, judged}
-use Rattle.loon_run.specs.Loon.{no_library, bad_netlist, many_pins, no_buffer, HasRoom, pins_limit, Limits, IsToldOf}
+use Rattle.loon_run.specs.Loon.{bad_netlist, many_pins, no_buffer, HasRoom, pins_limit, Limits, IsToldOf}
 
 module _ (c : LoonCommand) (source list : List ℕ) (cells : List (List ℕ)) where
-  pub by_library : (e : LibError) → OrMemory (IsRefusedLibrary false list cells) e → IsJudged (Limits c source list cells) (Err (refusal (status_of e) None))
-  by_library e h = refused_library (Limits c source list cells) false list cells e h (λ x r. (refl, no_library x r refl))
-
   module _ (l : Library) (table : List ModelPins) (library : IsLibraryOf false list cells l) (pins : IsTableOf l false table) where
     pub by_netlist : (e : ReadError) (s : Status) → IsVstRefusal source table e → MemoryOr s (OfFile c.source (λ x. x ≡ e) s) → IsJudged (Limits c source list cells) (Err (refusal s None))
     by_netlist e s h k =

@@ -1,11 +1,10 @@
 -- What `loon` reads and answers.
 use Rattle.std.specs.Prelude.{◌≡◌, ℕ, ◌^◌, ◌<◌, ◌≤◌, false, List, [], ◌∷◌, ◌++◌, length, get_or, codes, None, Some, Result, Ok, Err}
 use Rattle.vlsi_base.specs.declared.fault.LimitKind.TheVariants.{Bits}
-use Rattle.catal.specs.Cells.{cells_in}
 use Rattle.vlsi_base.specs.declared.kind.Kind.TheVariants as kind
 use Rattle.cell_model.specs.Library.{Library}
 use Rattle.cell_lib.specs.declared.error.LibError.{LibError}
-use Rattle.cell_lib.specs.Files.{catal_name, cell_files}
+use Rattle.cell_lib.specs.Files.{with_library}
 use Rattle.cell_lib.specs.Library.{IsLibraryOf, IsRefusedLibrary, status_of}
 use Rattle.cell_pins.specs.Table.{IsTableOf}
 use Rattle.net_core.specs.declared.pins.ModelPins.{ModelPins}
@@ -24,15 +23,12 @@ use Rattle.tool_drive.specs.declared.status.Status.TheVariants as status
 use Rattle.tool_drive.specs.declared.tool.Product.{Product}
 use Rattle.tool_drive.specs.declared.tool.Refusal.{Refusal}
 use Rattle.tool_drive.specs.Lines.{count_line}
-use Rattle.tool_drive.specs.Plan.{Plan, Inputs, limited, large}
+use Rattle.tool_drive.specs.Plan.{Plan, Inputs, large}
 use Rattle.tool_drive.specs.Refusals.{OfFile}
 
 -- SOURCE, CATAL, and then the files of the cells that CATAL uses
 abbrev pub loon_plan : LoonCommand → Plan
-loon_plan c = record {
-  first = large c.source ∷ limited (catal_name c.library) ∷ [];
-  more = λ read. cell_files c.library (cells_in (get_or read 1 []));
-}
+loon_plan c = with_library (large c.source ∷ []) c.library
 
 -- how many instances a netlist has, and how many femtoseconds its longest path takes
 abbrev pub report : Netlist → ℕ → List ℕ
@@ -83,19 +79,19 @@ pub record IsLimiting (c : LoonCommand) (source catal : List ℕ) (cells : List 
 
 -- What is refused, in this order: the library, the netlist, too many ports and pins of one that has an instance, and a net with too
 -- many sinks where the library has neither a buffer nor an inverter.
-pub data IsRefused (c : LoonCommand) (source catal : List ℕ) (cells : List (List ℕ)) (s : Status) : Type 0 where
-  no_library : (e : LibError) → IsRefusedLibrary false catal cells e → s ≡ status_of e → IsRefused c source catal cells s
+pub data IsLoonRefusal (c : LoonCommand) (source catal : List ℕ) (cells : List (List ℕ)) (s : Status) : Type 0 where
+  no_library : (e : LibError) → IsRefusedLibrary false catal cells e → s ≡ status_of e → IsLoonRefusal c source catal cells s
   bad_netlist : (l : Library) (table : List ModelPins) → IsLibraryOf false catal cells l → IsTableOf l false table
-      → OfFile c.source (IsVstRefusal source table) s → IsRefused c source catal cells s
+      → OfFile c.source (IsVstRefusal source table) s → IsLoonRefusal c source catal cells s
   many_pins : (l : Library) (table : List ModelPins) (n : Netlist) → AreRead source catal cells l table n → 0 < length n.instances
-      → 2 ^ 27 ≤ length (terminals n) → s ≡ pins_limit n → IsRefused c source catal cells s
+      → 2 ^ 27 ≤ length (terminals n) → s ≡ pins_limit n → IsLoonRefusal c source catal cells s
   no_buffer : (l : Library) (table : List ModelPins) (n : Netlist) → AreRead source catal cells l table n → HasRoom n
-      → IsCrowded l (most_sinks c.fanout) n → NoneRepeats l.cells → s ≡ status.NoCover kind.Inv → IsRefused c source catal cells s
+      → IsCrowded l (most_sinks c.fanout) n → NoneRepeats l.cells → s ≡ status.NoCover kind.Inv → IsLoonRefusal c source catal cells s
 
 -- the netlist is written and the report is printed, or one of these refusals
 abbrev pub Limits : LoonCommand → List ℕ → List ℕ → List (List ℕ) → Result Product Refusal → Type 0
 Limits c source catal cells (Ok p) = IsLimiting c source catal cells p
-Limits c source catal cells (Err r) = (r.part ≡ None) × IsRefused c source catal cells r.status
+Limits c source catal cells (Err r) = (r.part ≡ None) × IsLoonRefusal c source catal cells r.status
 
 abbrev pub loon_answers : LoonCommand → Inputs → Result Product Refusal → Type 0
 loon_answers c i r = Limits c (get_or i.first 0 []) (get_or i.first 1 []) i.more r

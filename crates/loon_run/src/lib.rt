@@ -11,4 +11,4 @@ mod words;
 
 pub use laws::loon_law;
 pub use loon::Loon;
-pub use words::{LOON_ENTRY, LoonCommand, read_loon};
+pub use words::{LOON_ENTRY, LoonCommand};

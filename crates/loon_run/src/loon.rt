@@ -1,6 +1,7 @@
 // `loon` as a tool: what it reads, and what it answers.
-ghost use Rattle.std.specs.Prelude.{◌≡◌, ◌^◌, ◌<◌, ◌≤◌, OnOk, IfOk, IfErr, length};
+ghost use Rattle.std.specs.Prelude.{◌≡◌, ◌^◌, ◌<◌, ◌≤◌, ℕ, List, OnOk, IfOk, IfErr, length, false};
 ghost use Rattle.net_core.specs.Netlist.{IsNetlist, terminals};
+ghost use Rattle.cell_lib.specs.Library.{IsLibraryOf, IsRead};
 ghost use Rattle.loon_fanout.specs.Limited.{StaysRight, IsBufferRefusal};
 ghost use Rattle.loon_drive.specs.Driven.{most_sinks};
 ghost use Rattle.tool_drive.specs.Refusals.{MemoryOr};
@@ -12,14 +13,14 @@ use crate::laws::loon_law;
 use crate::product::product;
 use crate::words::LoonCommand;
 use cell_checks::Library;
-use cell_lib::{catal_file, library_status, named_files, read_library};
+use cell_lib::LibraryTool;
 use cell_pins::pin_table;
 use loon_drive::{Driven, drive_netlist};
 use loon_fanout::BufferError;
 use net_core::Netlist;
 use std::alloc::{AllocError, Global};
-use tool_drive::{Kind, Product, Refusal, Status, Tool, Wanted, bytes_at, refused};
-use vlsi_base::{FileBytes, Limit, LimitKind};
+use tool_drive::{Kind, Product, Refusal, Status, Wanted, bytes_at, refused};
+use vlsi_base::{FileBytes, FileName, Limit, LimitKind};
 use vst_io::read_vst;
 
 /// `loon`, with what it is asked: it puts buffers into the netlist in SOURCE until no net has more sinks than asked for, exchanges
@@ -83,22 +84,19 @@ fn drive_status(error: BufferError) -> Status
     }
 }
 
-// What the texts come to.
+// What the netlist comes to.
 fn limited(
     alloc: Global,
     command: &LoonCommand,
+    library: &Library,
     source: &[u8],
-    catal: &[u8],
-    cells: &[FileBytes],
 ) -> Result<Product, Refusal>
-    ensures { IsJudged (Limits command.now source.now catal.now cells.now) result }
+    requires { IsRead library.now }
+    ensures { (catal : List ℕ) (cells : List (List ℕ)) → IsLibraryOf false catal cells library.now
+        → IsJudged (Limits command.now source.now catal cells) result }
 {
     loon_law();
-    let library = match read_library(alloc, catal, cells, false) {
-        Ok(library) => library,
-        Err(error) => return Err(Refusal::plain(library_status(error))),
-    };
-    let table = pin_table(alloc, &library, false)?;
+    let table = pin_table(alloc, library, false)?;
     let netlist = match read_vst(alloc, source, &table) {
         Ok(netlist) => netlist,
         Err(error) => return Err(Refusal::plain(refused(alloc, &command.source, error))),
@@ -106,7 +104,7 @@ fn limited(
     if let Err(full) = check_room(&netlist) {
         return Err(Refusal::plain(full));
     }
-    let driven = match driven(alloc, netlist, &library, command.fanout) {
+    let driven = match driven(alloc, netlist, library, command.fanout) {
         Ok(driven) => driven,
         Err(error) => return Err(Refusal::plain(drive_status(error))),
     };
@@ -114,36 +112,35 @@ fn limited(
     Ok(written)
 }
 
-impl Tool for Loon<'_> {
-    ghost use Rattle.loon_run.specs.Loon.{loon_plan, loon_answers};
+impl LibraryTool for Loon<'_> {
+    ghost use Rattle.std.specs.Prelude.{refl, [], ◌∷◌};
+    ghost use Rattle.tool_drive.specs.Plan.{large};
+    ghost use Rattle.loon_run.specs.Loon.{loon_answers, no_library};
 
-    ghost plan = { λ t. loon_plan t.command.now };
+    ghost files = { λ t. large t.command.now.source ∷ [] };
+
+    ghost folder = { λ t. t.command.now.library };
 
     ghost answers = { λ t. loon_answers t.command.now };
 
-    fn first(&self, alloc: Global) -> Result<Vec<Wanted>, AllocError> {
+    fn own_files(&self, alloc: Global) -> Result<Vec<Wanted>, AllocError> {
         let mut wanted = Vec::new(alloc);
         wanted.push(Wanted::large(self.command.source.copy(alloc)?))?;
-        wanted.push(catal_file(alloc, &self.command.library)?)?;
         Ok(wanted)
     }
 
-    fn more(&self, alloc: Global, first: &[FileBytes]) -> Result<Vec<Wanted>, AllocError> {
-        named_files(alloc, &self.command.library, bytes_at(first, 1))
+    fn library_folder(&self) -> &FileName {
+        &self.command.library
     }
 
-    fn judge(
+    fn judge_with(
         &self,
         alloc: Global,
+        library: &Library,
         first: &[FileBytes],
-        more: &[FileBytes],
     ) -> Result<Product, Refusal> {
-        limited(
-            alloc,
-            self.command,
-            bytes_at(first, 0),
-            bytes_at(first, 1),
-            more,
-        )
+        limited(alloc, self.command, library, bytes_at(first, 0))
     }
+
+    ghost refuses = { λ t first more e h. (refl, no_library e h refl) };
 }

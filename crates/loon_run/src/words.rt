@@ -1,13 +1,8 @@
 // The words of `loon`, and what they ask of it.
-ghost use Rattle.std.specs.Prelude.{◌≡◌, Some, None, IfOk, IsErrOf};
-ghost use Rattle.tool_words.specs.declared.words.WordsError.TheVariants.{Usage};
-ghost use Rattle.loon_run.specs.Words.{loon_from, loon_of};
 
 use std::alloc::Global;
-use tool_words::{
-    Entry, FANOUT, LIBRARY, OUT, Values, WordsError, number, source, taken, text, texts,
-};
-use vlsi_base::{FileName, Text};
+use tool_words::{Entry, FANOUT, FromValues, LIBRARY, OUT, Values, WordsError, number, source, text};
+use vlsi_base::FileName;
 
 /// What `loon` is asked to do: to put buffers into a netlist of the library's cells, and to choose the cells that make it fast.
 #[derive(Drop)]
@@ -29,24 +24,23 @@ pub const LOON_ENTRY: Entry = Entry {
     settings: &[LIBRARY, OUT, FANOUT],
 };
 
-fn command(alloc: Global, values: &Values) -> Result<LoonCommand, WordsError>
-    ensures ok { IfOk result (λ c. loon_from values.now ≡ Some c) }
-    ensures usage { IsErrOf result Usage → loon_from values.now ≡ None }
-{
-    Ok(LoonCommand {
-        source: source(alloc, values, LOON_ENTRY.endings)?,
-        library: text(alloc, values, LIBRARY)?,
-        out: text(alloc, values, OUT)?,
-        fanout: number(values, FANOUT)?,
-    })
-}
+impl FromValues for LoonCommand {
+    ghost use Rattle.loon_run.specs.Words.{loon, loon_from};
 
-/// What the words behind `loon` ask of it. `Usage` exactly where they are nothing of this form. It takes memory for what it answers.
-pub fn read_loon(alloc: Global, words: &[Text]) -> Result<LoonCommand, WordsError>
-    ensures ok { IfOk result (λ c. loon_of words.now ≡ Some c) }
-    ensures usage { IsErrOf result Usage → loon_of words.now ≡ None }
-{
-    let texts = texts(alloc, words)?;
-    let values = taken(alloc, LOON_ENTRY, texts.as_slice())?;
-    command(alloc, &values)
+    ghost called = { loon };
+
+    ghost asked = { loon_from };
+
+    fn entry() -> Entry {
+        LOON_ENTRY
+    }
+
+    fn from_values(alloc: Global, values: &Values) -> Result<Self, WordsError> {
+        Ok(LoonCommand {
+            source: source(alloc, values, LOON_ENTRY.endings)?,
+            library: text(alloc, values, LIBRARY)?,
+            out: text(alloc, values, OUT)?,
+            fanout: number(values, FANOUT)?,
+        })
+    }
 }

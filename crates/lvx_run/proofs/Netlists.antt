@@ -1,11 +1,7 @@
 -- From the refusals of readers and the verdict to the tool's.
-use Rattle.std.proofs.Common.{◌≡◌, ℕ, List, None, Result, Ok, Err, false, refl, inl, inr}
+use Rattle.std.proofs.Common.{◌≡◌, ℕ, List, None, Result, Ok, Err, refl, inl, inr}
 use Rattle.vlsi_base.specs.declared.fault.ReadError.{ReadError}
 use Rattle.cell_model.specs.Library.{Library}
-use Rattle.cell_lib.specs.declared.error.LibError.{LibError}
-use Rattle.cell_lib.proofs.Answering.{refused_library}
-use Rattle.cell_lib.specs.Cells.{OrMemory}
-use Rattle.cell_lib.specs.Library.{IsRefusedLibrary, status_of}
 use Rattle.net_core.specs.declared.pins.ModelPins.{ModelPins}
 use Rattle.net_core.specs.Netlist.{Netlist}
 use Rattle.vst_io.specs.Text.{IsVst, IsVstRefusal}
@@ -16,11 +12,7 @@ use Rattle.tool_drive.specs.declared.tool.Product.{Product}
 use Rattle.tool_drive.specs.declared.tool.Refusal.{Refusal}
 use Rattle.tool_drive.specs.Table.{IsFair, IsJudged, refusal}
 use Rattle.tool_drive.specs.Refusals.{MemoryOr, OfFile, of_file, memory_then, fair_then, judged}
-use Rattle.lvx_run.specs.Lvx.{Texts, AreCells, AreRead, no_library, unread, different, IsUnread, Tells, Compares}
-
-pub by_library : (c : LvxCommand) (t : Texts) (e : LibError) → OrMemory (IsRefusedLibrary false t.catal t.cells) e
-    → IsJudged (Compares c t) (Err (refusal (status_of e) None))
-by_library c t e h = refused_library (Compares c t) false t.catal t.cells e h (λ x r. (refl, no_library x r refl))
+use Rattle.lvx_run.specs.Lvx.{Texts, AreCells, AreRead, unread, different, IsUnread, Tells, Compares}
 
 -- a refusal of SOURCE, and one of the second file
 pub source_unread : (c : LvxCommand) (source other : List ℕ) (table : List ModelPins) (e : ReadError) (s : Status) → IsVstRefusal source table e → MemoryOr s (OfFile c.source (λ x. x ≡ e) s)

@@ -1,10 +1,9 @@
 -- What `lvx` reads and answers.
 use Rattle.std.specs.Prelude.{◌≡◌, ◌⊎◌, ℕ, true, false, List, [], ◌∷◌, ◌++◌, codes, get_or, None, Result, Ok, Err}
 use Rattle.vlsi_base.specs.declared.name.Name.{Name}
-use Rattle.catal.specs.Cells.{cells_in}
 use Rattle.cell_model.specs.Library.{Library}
 use Rattle.cell_lib.specs.declared.error.LibError.{LibError}
-use Rattle.cell_lib.specs.Files.{catal_name, cell_files}
+use Rattle.cell_lib.specs.Files.{with_library}
 use Rattle.cell_lib.specs.Library.{IsLibraryOf, IsRefusedLibrary, status_of}
 use Rattle.cell_pins.specs.Table.{IsTableOf}
 use Rattle.net_core.specs.declared.pins.ModelPins.{ModelPins}
@@ -17,15 +16,12 @@ use Rattle.tool_drive.specs.declared.status.Status.TheVariants as status
 use Rattle.tool_drive.specs.declared.status.Verdict.TheVariants.{Different}
 use Rattle.tool_drive.specs.declared.tool.Product.{Product}
 use Rattle.tool_drive.specs.declared.tool.Refusal.{Refusal}
-use Rattle.tool_drive.specs.Plan.{Plan, Inputs, limited, large}
+use Rattle.tool_drive.specs.Plan.{Plan, Inputs, large}
 use Rattle.tool_drive.specs.Refusals.{OfFile}
 
 -- SOURCE, the second file, CATAL, and then the files of the cells that CATAL uses
 abbrev pub lvx_plan : LvxCommand → Plan
-lvx_plan c = record {
-  first = large c.source ∷ large c.other ∷ limited (catal_name c.library) ∷ [];
-  more = λ read. cell_files c.library (cells_in (get_or read 2 []));
-}
+lvx_plan c = with_library (large c.source ∷ large c.other ∷ []) c.library
 
 -- what stands in the files
 pub record Texts : Type 0 where
@@ -60,10 +56,10 @@ IsUnread c source other table s =
     OfFile c.source (IsVstRefusal source table) s ⊎ ((n : Netlist) × IsVst source table n × OfFile c.other (IsVstRefusal other table) s)
 
 -- What is refused, in this order: the library, SOURCE, the second file, the first name that differs.
-pub data IsRefused (c : LvxCommand) (t : Texts) (s : Status) : Type 0 where
-  no_library : (e : LibError) → IsRefusedLibrary false t.catal t.cells e → s ≡ status_of e → IsRefused c t s
-  unread : (l : Library) (table : List ModelPins) → AreCells t l table → IsUnread c t.source t.other table s → IsRefused c t s
-  different : (a b : Netlist) (name : Name) → AreRead t a b → IsDifference a b name → s ≡ status.No (Different name) → IsRefused c t s
+pub data IsLvxRefusal (c : LvxCommand) (t : Texts) (s : Status) : Type 0 where
+  no_library : (e : LibError) → IsRefusedLibrary false t.catal t.cells e → s ≡ status_of e → IsLvxRefusal c t s
+  unread : (l : Library) (table : List ModelPins) → AreCells t l table → IsUnread c t.source t.other table s → IsLvxRefusal c t s
+  different : (a b : Netlist) (name : Name) → AreRead t a b → IsDifference a b name → s ≡ status.No (Different name) → IsLvxRefusal c t s
 
 abbrev pub same_text : List ℕ
 same_text = codes "same" ++ 10 ∷ []
@@ -76,7 +72,7 @@ Tells c a b (Err r) = (r.part ≡ None) × ((name : Name) × IsDifference a b na
 -- The netlists are the same, this is printed, and no file is written; or one of these refusals.
 abbrev pub Compares : LvxCommand → Texts → Result Product Refusal → Type 0
 Compares c t (Ok p) = (p.name ≡ c.source) × (p.file ≡ None) × (p.text ≡ same_text) × IsSame t
-Compares c t (Err r) = (r.part ≡ None) × IsRefused c t r.status
+Compares c t (Err r) = (r.part ≡ None) × IsLvxRefusal c t r.status
 
 -- the texts of what was read
 abbrev pub texts : List (List ℕ) → List (List ℕ) → Texts

@@ -8,4 +8,4 @@ mod lvx;
 mod words;
 
 pub use lvx::Lvx;
-pub use words::{LVX_ENTRY, LvxCommand, read_lvx};
+pub use words::{LVX_ENTRY, LvxCommand};

@@ -1,5 +1,6 @@
 // `lvx` as a tool: what it reads, and what it answers.
-ghost use Rattle.std.specs.Prelude.{◌≡◌, IfOk, IfErr};
+ghost use Rattle.std.specs.Prelude.{◌≡◌, [], ℕ, List, get_or, IfOk, IfErr, false};
+ghost use Rattle.cell_lib.specs.Library.{IsLibraryOf};
 ghost use Rattle.net_core.specs.Checks.{IsPinTable};
 ghost use Rattle.vst_io.specs.Text.{IsVst};
 ghost use Rattle.tool_drive.specs.Refusals.{MemoryOr};
@@ -7,13 +8,14 @@ ghost use Rattle.tool_drive.specs.Table.{IsJudged};
 ghost use Rattle.lvx_run.specs.Lvx.{texts, IsUnread, Tells, Compares};
 
 use crate::words::LvxCommand;
-use cell_lib::{catal_file, library_status, named_files, read_library};
+use cell_checks::Library;
+use cell_lib::LibraryTool;
 use cell_pins::pin_table;
 use lvx_compare::{Verdict as Compared, compare};
 use net_core::{Netlist, PinTable};
 use std::alloc::{AllocError, Global};
-use tool_drive::{Product, Refusal, Status, Tool, Verdict, Wanted, bytes_at, refused};
-use vlsi_base::FileBytes;
+use tool_drive::{Product, Refusal, Status, Verdict, Wanted, bytes_at, refused};
+use vlsi_base::{FileBytes, FileName};
 use vst_io::read_vst;
 
 /// `lvx`, with what it is asked: it compares the netlist in SOURCE with the one in the second file, by name, and prints `same`.
@@ -63,20 +65,17 @@ fn told(alloc: Global, command: &LvxCommand, a: &Netlist, b: &Netlist) -> Result
     }
 }
 
-// What the texts come to: of SOURCE, the second file and CATAL, and of the cells' files.
+// What the texts come to: of SOURCE and of the second file.
 fn compared(
     alloc: Global,
     command: &LvxCommand,
+    library: &Library,
     first: &[FileBytes],
-    more: &[FileBytes],
 ) -> Result<Product, Refusal>
-    ensures { IsJudged (Compares command.now (texts first.now more.now)) result }
+    ensures { (more : List (List ℕ)) → IsLibraryOf false (get_or first.now 2 []) more library.now
+        → IsJudged (Compares command.now (texts first.now more)) result }
 {
-    let library = match read_library(alloc, bytes_at(first, 2), more, false) {
-        Ok(library) => library,
-        Err(error) => return Err(Refusal::plain(library_status(error))),
-    };
-    let table = pin_table(alloc, &library, true)?;
+    let table = pin_table(alloc, library, true)?;
     let source = bytes_at(first, 0);
     let other = bytes_at(first, 1);
     match read_both(alloc, command, source, other, &table) {
@@ -85,31 +84,36 @@ fn compared(
     }
 }
 
-impl Tool for Lvx<'_> {
-    ghost use Rattle.lvx_run.specs.Lvx.{lvx_plan, lvx_answers};
+impl LibraryTool for Lvx<'_> {
+    ghost use Rattle.std.specs.Prelude.{refl, [], ◌∷◌};
+    ghost use Rattle.tool_drive.specs.Plan.{large};
+    ghost use Rattle.lvx_run.specs.Lvx.{lvx_answers, no_library};
 
-    ghost plan = { λ t. lvx_plan t.command.now };
+    ghost files = { λ t. large t.command.now.source ∷ large t.command.now.other ∷ [] };
+
+    ghost folder = { λ t. t.command.now.library };
 
     ghost answers = { λ t. lvx_answers t.command.now };
 
-    fn first(&self, alloc: Global) -> Result<Vec<Wanted>, AllocError> {
+    fn own_files(&self, alloc: Global) -> Result<Vec<Wanted>, AllocError> {
         let mut wanted = Vec::new(alloc);
         wanted.push(Wanted::large(self.command.source.copy(alloc)?))?;
         wanted.push(Wanted::large(self.command.other.copy(alloc)?))?;
-        wanted.push(catal_file(alloc, &self.command.library)?)?;
         Ok(wanted)
     }
 
-    fn more(&self, alloc: Global, first: &[FileBytes]) -> Result<Vec<Wanted>, AllocError> {
-        named_files(alloc, &self.command.library, bytes_at(first, 2))
+    fn library_folder(&self) -> &FileName {
+        &self.command.library
     }
 
-    fn judge(
+    fn judge_with(
         &self,
         alloc: Global,
+        library: &Library,
         first: &[FileBytes],
-        more: &[FileBytes],
     ) -> Result<Product, Refusal> {
-        compared(alloc, self.command, first, more)
+        compared(alloc, self.command, library, first)
     }
+
+    ghost refuses = { λ t first more e h. (refl, no_library e h refl) };
 }

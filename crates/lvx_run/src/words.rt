@@ -1,11 +1,8 @@
 // The words of `lvx`, and what they ask of it.
-ghost use Rattle.std.specs.Prelude.{◌≡◌, Some, None, IfOk, IsErrOf};
-ghost use Rattle.tool_words.specs.declared.words.WordsError.TheVariants.{Usage};
-ghost use Rattle.lvx_run.specs.Words.{lvx_from, lvx_of};
 
 use std::alloc::Global;
-use tool_words::{Entry, Form, LIBRARY, Setting, Values, WordsError, source, taken, text, texts};
-use vlsi_base::{FileName, Text};
+use tool_words::{Entry, Form, FromValues, LIBRARY, Setting, Values, WordsError, source, text};
+use vlsi_base::FileName;
 
 /// What `lvx` is asked to do: to compare two netlists by name.
 #[derive(Drop)]
@@ -34,23 +31,22 @@ pub const LVX_ENTRY: Entry = Entry {
     settings: &[OTHER, LIBRARY],
 };
 
-fn command(alloc: Global, values: &Values) -> Result<LvxCommand, WordsError>
-    ensures ok { IfOk result (λ c. lvx_from values.now ≡ Some c) }
-    ensures usage { IsErrOf result Usage → lvx_from values.now ≡ None }
-{
-    Ok(LvxCommand {
-        source: source(alloc, values, LVX_ENTRY.endings)?,
-        other: text(alloc, values, OTHER)?,
-        library: text(alloc, values, LIBRARY)?,
-    })
-}
+impl FromValues for LvxCommand {
+    ghost use Rattle.lvx_run.specs.Words.{lvx, lvx_from};
 
-/// What the words behind `lvx` ask of it. `Usage` exactly where they are nothing of this form. It takes memory for what it answers.
-pub fn read_lvx(alloc: Global, words: &[Text]) -> Result<LvxCommand, WordsError>
-    ensures ok { IfOk result (λ c. lvx_of words.now ≡ Some c) }
-    ensures usage { IsErrOf result Usage → lvx_of words.now ≡ None }
-{
-    let texts = texts(alloc, words)?;
-    let values = taken(alloc, LVX_ENTRY, texts.as_slice())?;
-    command(alloc, &values)
+    ghost called = { lvx };
+
+    ghost asked = { lvx_from };
+
+    fn entry() -> Entry {
+        LVX_ENTRY
+    }
+
+    fn from_values(alloc: Global, values: &Values) -> Result<Self, WordsError> {
+        Ok(LvxCommand {
+            source: source(alloc, values, LVX_ENTRY.endings)?,
+            other: text(alloc, values, OTHER)?,
+            library: text(alloc, values, LIBRARY)?,
+        })
+    }
 }

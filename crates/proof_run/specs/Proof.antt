@@ -49,15 +49,15 @@ IsFinding a b budget (status.No (verdict.Unequal name)) =
 IsFinding a b budget _ = ⊥
 
 -- What is refused, in this order: the source, the second one, and what is found of their machines.
-pub data IsRefused (c : ProofCommand) (source other : List ℕ) (s : Status) : Type 0 where
-  bad_source : OfFile c.source (IsVbeRefusal source) s → IsRefused c source other s
-  bad_other : (a : Machine) → IsVbe source a → OfFile c.other (IsVbeRefusal other) s → IsRefused c source other s
-  found : (a b : Machine) → IsVbe source a → IsVbe other b → IsFinding a b c.nodes s → IsRefused c source other s
+pub data IsProofRefusal (c : ProofCommand) (source other : List ℕ) (s : Status) : Type 0 where
+  bad_source : OfFile c.source (IsVbeRefusal source) s → IsProofRefusal c source other s
+  bad_other : (a : Machine) → IsVbe source a → OfFile c.other (IsVbeRefusal other) s → IsProofRefusal c source other s
+  found : (a b : Machine) → IsVbe source a → IsVbe other b → IsFinding a b c.nodes s → IsProofRefusal c source other s
 
 -- it is printed that the sources are equal; or one of these refusals
 abbrev pub Compares : ProofCommand → List ℕ → List ℕ → Result Product Refusal → Type 0
 Compares c source other (Ok p) = AreEqualSources c source other × IsSaidEqual c p
-Compares c source other (Err r) = (r.part ≡ None) × IsRefused c source other r.status
+Compares c source other (Err r) = (r.part ≡ None) × IsProofRefusal c source other r.status
 
 abbrev pub proof_answers : ProofCommand → Inputs → Result Product Refusal → Type 0
 proof_answers c i r = Compares c (get_or i.first 0 []) (get_or i.first 1 []) r

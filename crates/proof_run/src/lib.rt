@@ -8,4 +8,4 @@ mod proof;
 mod words;
 
 pub use proof::Proof;
-pub use words::{PROOF_ENTRY, ProofCommand, read_proof};
+pub use words::{PROOF_ENTRY, ProofCommand};

@@ -4,7 +4,7 @@ ghost use Rattle.vbe_io.specs.Text.{IsVbe, IsVbeRefusal};
 ghost use Rattle.proof_joint.specs.Clock.{as_compared};
 ghost use Rattle.tool_drive.specs.Refusals.{MemoryOr, OfFile};
 ghost use Rattle.tool_drive.specs.Table.{IsJudged};
-ghost use Rattle.proof_run.specs.Proof.{Compares, IsRefused, IsFinding, AreEqualSources, AreSameFunctions, IsSaidEqual};
+ghost use Rattle.proof_run.specs.Proof.{Compares, IsProofRefusal, IsFinding, AreEqualSources, AreSameFunctions, IsSaidEqual};
 
 use crate::words::ProofCommand;
 use machine_core::Machine;
@@ -75,7 +75,7 @@ fn other_is_equal(
 ) -> Result<(), Status>
     requires { length (as_compared first.now).vars < 2 ^ 32 }
     ensures equal { IfOk result (λ _. (source : List ℕ) → IsVbe source first.now → AreEqualSources command.now source other.now) }
-    ensures refused { IfErr result (λ s. (source : List ℕ) → IsVbe source first.now → MemoryOr s (IsRefused command.now source other.now s)) }
+    ensures refused { IfErr result (λ s. (source : List ℕ) → IsVbe source first.now → MemoryOr s (IsProofRefusal command.now source other.now s)) }
 {
     source_has_few_names();
     match machine_in(alloc, &command.other, other) {
@@ -92,7 +92,7 @@ fn sources_are_equal(
     other: &[u8],
 ) -> Result<(), Status>
     ensures equal { IfOk result (λ _. AreEqualSources command.now source.now other.now) }
-    ensures refused { IfErr result (λ s. MemoryOr s (IsRefused command.now source.now other.now s)) }
+    ensures refused { IfErr result (λ s. MemoryOr s (IsProofRefusal command.now source.now other.now s)) }
 {
     source_has_few_names();
     match machine_in(alloc, &command.source, source) {

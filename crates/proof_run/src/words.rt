@@ -1,13 +1,8 @@
 // The words of `proof`, and what they ask of it.
-ghost use Rattle.std.specs.Prelude.{◌≡◌, Some, None, IfOk, IsErrOf};
-ghost use Rattle.tool_words.specs.declared.words.WordsError.TheVariants.{Usage};
-ghost use Rattle.proof_run.specs.Words.{proof_from, proof_of};
 
 use std::alloc::Global;
-use tool_words::{
-    Entry, Form, NODES, Setting, Values, WordsError, number, source, taken, text, texts,
-};
-use vlsi_base::{FileName, Text};
+use tool_words::{Entry, Form, FromValues, NODES, Setting, Values, WordsError, number, source, text};
+use vlsi_base::FileName;
 
 /// What `proof` is asked to do: to compare two sources as functions.
 #[derive(Drop)]
@@ -36,23 +31,22 @@ pub const PROOF_ENTRY: Entry = Entry {
     settings: &[OTHER, NODES],
 };
 
-fn command(alloc: Global, values: &Values) -> Result<ProofCommand, WordsError>
-    ensures ok { IfOk result (λ c. proof_from values.now ≡ Some c) }
-    ensures usage { IsErrOf result Usage → proof_from values.now ≡ None }
-{
-    Ok(ProofCommand {
-        source: source(alloc, values, PROOF_ENTRY.endings)?,
-        other: text(alloc, values, OTHER)?,
-        nodes: number(values, NODES)?,
-    })
-}
+impl FromValues for ProofCommand {
+    ghost use Rattle.proof_run.specs.Words.{proof, proof_from};
 
-/// What the words behind `proof` ask of it. `Usage` exactly where they are nothing of this form. It takes memory for what it answers.
-pub fn read_proof(alloc: Global, words: &[Text]) -> Result<ProofCommand, WordsError>
-    ensures ok { IfOk result (λ c. proof_of words.now ≡ Some c) }
-    ensures usage { IsErrOf result Usage → proof_of words.now ≡ None }
-{
-    let texts = texts(alloc, words)?;
-    let values = taken(alloc, PROOF_ENTRY, texts.as_slice())?;
-    command(alloc, &values)
+    ghost called = { proof };
+
+    ghost asked = { proof_from };
+
+    fn entry() -> Entry {
+        PROOF_ENTRY
+    }
+
+    fn from_values(alloc: Global, values: &Values) -> Result<Self, WordsError> {
+        Ok(ProofCommand {
+            source: source(alloc, values, PROOF_ENTRY.endings)?,
+            other: text(alloc, values, OTHER)?,
+            nodes: number(values, NODES)?,
+        })
+    }
 }

@@ -16,4 +16,4 @@ pub use encoded::{Encoded, encoded_machine, style_of};
 pub use laws::encoded_law;
 pub use lines::code_lines;
 pub use syf::Syf;
-pub use words::{SYF_ENTRY, SyfCommand, read_syf};
+pub use words::{SYF_ENTRY, SyfCommand};

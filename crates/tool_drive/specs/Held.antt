@@ -1,22 +1,16 @@
 -- From what reading comes to, to what stands in the files: for the laws and proofs of tools.
-use Rattle.std.specs.Prelude.{◌≡◌, ◌≤◌, ℕ, ◌+◌, Bool, true, false, cond, List, [], ◌∷◌, Option, None, Some, length, take, nat_le, refl}
-use Rattle.std.proofs.Common.{◌∙◌, sym, ap, subst, arith}
+use Rattle.std.specs.Prelude.{◌≡◌, ◌≤◌, ℕ, Bool, true, false, cond, List, [], ◌∷◌, Option, None, Some, length, nat_le, refl}
+use Rattle.std.proofs.Common.{◌∙◌, ap, subst, arith}
 use Rattle.std.specs.FinMap.{get}
 use Rattle.vlsi_shelf.specs.Files.{Files}
 use Rattle.vlsi_base.specs.declared.limits.TheConstants.{MOST_SOURCE_BYTES}
 use Rattle.tool_drive.specs.declared.tool.Wanted.{Wanted}
-use Rattle.tool_drive.specs.Plan.{Reading, got, lacking, long, go_on, limited, cut, held, gather}
+use Rattle.tool_drive.specs.Plan.{Reading, got, lacking, long, go_on, limited, held, gather}
 
 -- a file that isn't longer than it may be has these bytes
 pub record Holds (files : Files) (name bytes : List ℕ) : Type 0 where
   pub is : get files name ≡ Some bytes
   pub fits : length bytes ≤ MOST_SOURCE_BYTES
-
--- these are the first bytes of a file
-pub record Begins (files : Files) (name bytes : List ℕ) : Type 0 where
-  pub content : List ℕ
-  pub is : get files name ≡ Some content
-  pub bytes_are : bytes ≡ take (MOST_SOURCE_BYTES + 1) content
 
 -- file by file, this was had
 abbrev pub AreHad : Files → List Wanted → List (List ℕ) → Type 0
@@ -55,10 +49,3 @@ holds files name bytes h = by (get files name) refl h where
   by : (found : Option (List ℕ)) → get files name ≡ found → held found (limited name) ≡ got bytes → Holds files name bytes
   by None e h = absurd (cc h)
   by (Some content) e h = fitting files name content bytes (nat_le (length content) MOST_SOURCE_BYTES) e refl h
-
--- a file of which the first bytes were had
-pub begins : (files : Files) (name bytes : List ℕ) → held (get files name) (cut name) ≡ got bytes → Begins files name bytes
-begins files name bytes h = by (get files name) refl h where
-  by : (found : Option (List ℕ)) → get files name ≡ found → held found (cut name) ≡ got bytes → Begins files name bytes
-  by None e h = absurd (cc h)
-  by (Some content) e h = record { content = content; is = e; bytes_are = sym (got_same (take (MOST_SOURCE_BYTES + 1) content) bytes h) }

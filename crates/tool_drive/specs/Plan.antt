@@ -1,10 +1,8 @@
 -- What a tool reads, and what reading it comes to over files that are told.
-use Rattle.std.specs.Prelude.{◌≡◌, ◌⊎◌, ℕ, ◌+◌, List, [], ◌∷◌, ◌++◌, Option, None, Some, IfSome, length, take, nat_le, if◌then◌else◌}
+use Rattle.std.specs.Prelude.{◌≡◌, ◌⊎◌, ℕ, List, [], ◌∷◌, ◌++◌, Option, None, Some, IfSome, length, nat_le, if◌then◌else◌}
 use Rattle.std.specs.FinMap.{get}
 use Rattle.vlsi_shelf.specs.Files.{Files}
 use Rattle.vlsi_base.specs.declared.limits.TheConstants.{MOST_SOURCE_BYTES, MOST_NETLIST_BYTES}
-use Rattle.tool_drive.specs.declared.tool.Over.{Over}
-use Rattle.tool_drive.specs.declared.tool.Over.TheVariants.{Refused, Cut}
 use Rattle.tool_drive.specs.declared.tool.Wanted.{Wanted}
 
 -- the files that the words name, and those that the contents of these name
@@ -14,14 +12,11 @@ pub record Plan : Type 0 where
 
 -- a file of at most `MOST_SOURCE_BYTES` bytes
 abbrev pub limited : List ℕ → Wanted
-limited name = record { name = name; most = MOST_SOURCE_BYTES; over = Refused }
+limited name = record { name = name; most = MOST_SOURCE_BYTES }
 
 -- a file of at most `MOST_NETLIST_BYTES` bytes: a netlist's, or a layout's
 abbrev pub large : List ℕ → Wanted
-large name = record { name = name; most = MOST_NETLIST_BYTES; over = Refused }
-
-abbrev pub cut : List ℕ → Wanted
-cut name = record { name = name; most = MOST_SOURCE_BYTES; over = Cut }
+large name = record { name = name; most = MOST_NETLIST_BYTES }
 
 -- what was read
 pub record Inputs : Type 0 where
@@ -42,14 +37,10 @@ go_on (got a) f = f a
 go_on (lacking name) f = lacking name
 go_on (long most) f = long most
 
--- what a file's bytes come to
-abbrev pub kept : Over → ℕ → List ℕ → Reading (List ℕ)
-kept Refused most bytes = if nat_le (length bytes) most then got bytes else long most
-kept Cut most bytes = got (take (most + 1) bytes)
-
+-- what a file comes to
 abbrev pub held : Option (List ℕ) → Wanted → Reading (List ℕ)
 held None w = lacking w.name
-held (Some bytes) w = kept w.over w.most bytes
+held (Some bytes) w = if nat_le (length bytes) w.most then got bytes else long w.most
 
 -- these files, one behind the other
 abbrev pub gather : Files → List Wanted → Reading (List (List ℕ))

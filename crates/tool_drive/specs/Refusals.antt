@@ -1,8 +1,10 @@
 -- Refusals of texts, for the definitions of tools.
 use Rattle.std.specs.Prelude.{◌≡◌, ℕ, List, Option, None, Result, Err, refl}
 use Rattle.std.proofs.Common.{sym, subst}
+use Rattle.vlsi_base.specs.declared.fault.FaultKind.{FaultKind}
 use Rattle.vlsi_base.specs.declared.fault.ReadError.{ReadError}
 use Rattle.vlsi_base.specs.declared.fault.ReadError.TheVariants as errors
+use Rattle.vlsi_base.specs.declared.name.Name.{Name}
 use Rattle.tool_drive.specs.declared.status.Status.{Status}
 use Rattle.tool_drive.specs.declared.status.Status.TheVariants as status
 use Rattle.tool_drive.specs.declared.tool.Written.{Written}
@@ -20,6 +22,10 @@ abbrev pub OfFile : List ℕ → (ReadError → Type 0) → Status → Type 0
 OfFile file R (status.Source name fault) = (name ≡ file) × R (errors.Input fault)
 OfFile file R (status.Limit l) = R (errors.Limit l)
 OfFile file R s = ⊥
+
+-- a fault of the whole file stands on line 1
+abbrev pub whole_fault : List ℕ → FaultKind → List Name → Status
+whole_fault file k names = status.Source file (record { line = 1; kind = k; names = names })
 
 -- ---- lemmas that tools' proofs cite: none has a case for each status
 

@@ -16,10 +16,10 @@ mod tool;
 
 pub use line::tell;
 pub use read::{Stop, read_list};
-pub use refusals::refused;
+pub use refusals::{named_fault, refused, unknown_cell, whole_fault};
 pub use report::count_line;
 pub use run::drive;
 pub use size::{MOST_SIZE, check_size};
 pub use status::{FileCause, LibraryFault, Status, Verdict};
-pub use tool::{Over, Product, Refusal, Tool, Wanted, Written, bytes_at};
+pub use tool::{Product, Refusal, Tool, Wanted, Written, bytes_at};
 pub use vlsi_base::Kind;

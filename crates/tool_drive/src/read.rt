@@ -5,7 +5,7 @@ ghost use Rattle.tool_drive.specs.Outside.{OnlyReads};
 ghost use Rattle.tool_drive.specs.Plan.{got, Comes, Gathers, WasRead};
 ghost use Rattle.tool_drive.specs.Stops.{IsFileStop, IsListStop, IsPlanStop};
 
-use crate::{Over, Tool, Wanted};
+use crate::{Tool, Wanted};
 use std::alloc::{AllocError, AllocFailed, Global};
 use vlsi_base::{FileBytes, FileName};
 use vlsi_shelf::{Shelf, ShelfError};
@@ -52,7 +52,7 @@ fn read_file<S: Shelf>(alloc: Global, wanted: &Wanted, shelf: &mut S) -> Result<
     let name = wanted.name.copy(alloc)?;
     match shelf.read(alloc, &wanted.name, wanted.most) {
         Ok(bytes) => {
-            if wanted.over == Over::Refused && bytes.as_bytes().len() as u64 > wanted.most {
+            if bytes.as_bytes().len() as u64 > wanted.most {
                 return Err(Stop::Long(wanted.most));
             }
             Ok(bytes)

@@ -1,26 +1,16 @@
 // What a tool says of itself: what it reads, and what it answers to what was read.
 ghost use Rattle.std.specs.Prelude.{◌≡◌, None, IfOk, [], get_or, length};
-ghost use Rattle.tool_drive.specs.Plan.{limited, large, cut};
+ghost use Rattle.tool_drive.specs.Plan.{limited, large};
 
 use crate::Status;
 use std::alloc::{AllocError, Global};
 use vlsi_base::{FileBytes, FileName, MOST_NETLIST_BYTES, MOST_SOURCE_BYTES};
 
-/// What a file comes to that is longer than it may be.
-#[derive(Clone, Copy, Debug, PartialEq, Eq)]
-pub enum Over {
-    /// The limit file, before the next file is read.
-    Refused,
-    /// One byte more is read than it may have, and the tool refuses what it then has.
-    Cut,
-}
-
-/// A file that is read, and the most bytes that it may have.
+/// A file that is read, and the most bytes that it may have. A longer one is refused by the limit file, before the next file is read.
 #[derive(Drop)]
 pub struct Wanted {
     pub name: FileName,
     pub most: u64,
-    pub over: Over,
 }
 
 impl Wanted {
@@ -31,7 +21,6 @@ impl Wanted {
         Wanted {
             name,
             most: MOST_SOURCE_BYTES as u64,
-            over: Over::Refused,
         }
     }
 
@@ -42,18 +31,6 @@ impl Wanted {
         Wanted {
             name,
             most: MOST_NETLIST_BYTES as u64,
-            over: Over::Refused,
-        }
-    }
-
-    /// A file of at most `MOST_SOURCE_BYTES` bytes; of a longer one the tool gets one byte more.
-    pub fn cut(name: FileName) -> Self
-        ensures { result ≡ cut name }
-    {
-        Wanted {
-            name,
-            most: MOST_SOURCE_BYTES as u64,
-            over: Over::Cut,
         }
     }
 }

@@ -9,6 +9,7 @@ use crate::words::Command;
 use asimut_run::{Asimut, AsimutNetlist, AsimutTask};
 use boog_run::Boog;
 use boom_run::Boom;
+use cell_lib::WithLibrary;
 use cougar_run::Cougar;
 use druc_run::Druc;
 use flatbeh_run::Flatbeh;
@@ -34,7 +35,8 @@ fn run_asimut<S: Shelf, T: Sink>(
     match task {
         AsimutTask::Source(command) => drive(alloc, b"asimut", &Asimut { command }, shelf, out),
         AsimutTask::Netlist(command) => {
-            drive(alloc, b"asimut", &AsimutNetlist { command }, shelf, out)
+            let tool = WithLibrary(AsimutNetlist { command });
+            drive(alloc, b"asimut", &tool, shelf, out)
         }
     }
 }
@@ -58,13 +60,25 @@ pub fn run_tool<S: Shelf, T: Sink>(
     match command {
         Command::Syf(command) => drive(alloc, b"syf", &Syf { command }, shelf, out),
         Command::Boom(command) => drive(alloc, b"boom", &Boom { command }, shelf, out),
-        Command::Boog(command) => drive(alloc, b"boog", &Boog { command }, shelf, out),
-        Command::Loon(command) => drive(alloc, b"loon", &Loon { command }, shelf, out),
+        Command::Boog(command) => {
+            drive(alloc, b"boog", &WithLibrary(Boog { command }), shelf, out)
+        }
+        Command::Loon(command) => {
+            drive(alloc, b"loon", &WithLibrary(Loon { command }), shelf, out)
+        }
         Command::Asimut(task) => run_asimut(alloc, task, shelf, out),
-        Command::Cougar(command) => drive(alloc, b"cougar", &Cougar { command }, shelf, out),
-        Command::Lvx(command) => drive(alloc, b"lvx", &Lvx { command }, shelf, out),
-        Command::Druc(command) => drive(alloc, b"druc", &Druc { command }, shelf, out),
+        Command::Cougar(command) => {
+            drive(alloc, b"cougar", &WithLibrary(Cougar { command }), shelf, out)
+        }
+        Command::Lvx(command) => {
+            drive(alloc, b"lvx", &WithLibrary(Lvx { command }), shelf, out)
+        }
+        Command::Druc(command) => {
+            drive(alloc, b"druc", &WithLibrary(Druc { command }), shelf, out)
+        }
         Command::Proof(command) => drive(alloc, b"proof", &Proof { command }, shelf, out),
-        Command::Flatbeh(command) => drive(alloc, b"flatbeh", &Flatbeh { command }, shelf, out),
+        Command::Flatbeh(command) => {
+            drive(alloc, b"flatbeh", &WithLibrary(Flatbeh { command }), shelf, out)
+        }
     }
 }

@@ -6,19 +6,19 @@ ghost use Rattle.tool_words.specs.View.{entry_view};
 ghost use Rattle.tool_run.specs.Tools.{tools, entries, command_of};
 ghost use Rattle.tool_run.specs.Laws.{ToolComesFirst};
 
-use asimut_run::{ASIMUT_ENTRY, AsimutTask, read_asimut};
-use boog_run::{BOOG_ENTRY, BoogCommand, read_boog};
-use boom_run::{BOOM_ENTRY, BoomCommand, read_boom};
-use cougar_run::{COUGAR_ENTRY, CougarCommand, read_cougar};
-use druc_run::{DRUC_ENTRY, DrucCommand, read_druc};
-use flatbeh_run::{FLATBEH_ENTRY, FlatbehCommand, read_flatbeh};
+use asimut_run::{ASIMUT_ENTRY, AsimutTask};
+use boog_run::{BOOG_ENTRY, BoogCommand};
+use boom_run::{BOOM_ENTRY, BoomCommand};
+use cougar_run::{COUGAR_ENTRY, CougarCommand};
+use druc_run::{DRUC_ENTRY, DrucCommand};
+use flatbeh_run::{FLATBEH_ENTRY, FlatbehCommand};
 use flow_words::{FLOW_ENTRY, GEN_ENTRY};
-use loon_run::{LOON_ENTRY, LoonCommand, read_loon};
-use lvx_run::{LVX_ENTRY, LvxCommand, read_lvx};
-use proof_run::{PROOF_ENTRY, ProofCommand, read_proof};
+use loon_run::{LOON_ENTRY, LoonCommand};
+use lvx_run::{LVX_ENTRY, LvxCommand};
+use proof_run::{PROOF_ENTRY, ProofCommand};
 use std::alloc::Global;
-use syf_run::{SYF_ENTRY, SyfCommand, read_syf};
-use tool_words::{Entry, Words, WordsError, is_same};
+use syf_run::{SYF_ENTRY, SyfCommand};
+use tool_words::{Entry, Words, WordsError, is_same, read_asked};
 use vlsi_base::Text;
 
 /// What the words of a command ask for, of the tools beside `flow` and `gen`.
@@ -64,34 +64,34 @@ fn read_behind(alloc: Global, tool: &[u8], words: &[Text]) -> Result<Command, Wo
     ensures usage { IsErrOf result Usage → command_by (tool_named tools tool.now) words.now ≡ None }
 {
     if is_same(b"syf", tool) {
-        return Ok(Command::Syf(read_syf(alloc, words)?));
+        return Ok(Command::Syf(read_asked(alloc, words)?));
     }
     if is_same(b"boom", tool) {
-        return Ok(Command::Boom(read_boom(alloc, words)?));
+        return Ok(Command::Boom(read_asked(alloc, words)?));
     }
     if is_same(b"boog", tool) {
-        return Ok(Command::Boog(read_boog(alloc, words)?));
+        return Ok(Command::Boog(read_asked(alloc, words)?));
     }
     if is_same(b"loon", tool) {
-        return Ok(Command::Loon(read_loon(alloc, words)?));
+        return Ok(Command::Loon(read_asked(alloc, words)?));
     }
     if is_same(b"asimut", tool) {
-        return Ok(Command::Asimut(read_asimut(alloc, words)?));
+        return Ok(Command::Asimut(read_asked(alloc, words)?));
     }
     if is_same(b"cougar", tool) {
-        return Ok(Command::Cougar(read_cougar(alloc, words)?));
+        return Ok(Command::Cougar(read_asked(alloc, words)?));
     }
     if is_same(b"lvx", tool) {
-        return Ok(Command::Lvx(read_lvx(alloc, words)?));
+        return Ok(Command::Lvx(read_asked(alloc, words)?));
     }
     if is_same(b"druc", tool) {
-        return Ok(Command::Druc(read_druc(alloc, words)?));
+        return Ok(Command::Druc(read_asked(alloc, words)?));
     }
     if is_same(b"proof", tool) {
-        return Ok(Command::Proof(read_proof(alloc, words)?));
+        return Ok(Command::Proof(read_asked(alloc, words)?));
     }
     if is_same(b"flatbeh", tool) {
-        return Ok(Command::Flatbeh(read_flatbeh(alloc, words)?));
+        return Ok(Command::Flatbeh(read_asked(alloc, words)?));
     }
     Err(WordsError::Usage)
 }

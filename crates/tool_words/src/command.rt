@@ -36,7 +36,7 @@ pub trait FromValues: Sized {
 }
 
 /// What the words behind a tool's ask of it. `Usage` exactly where they are nothing of its form. It takes memory for what it answers.
-pub fn read_words<C: FromValues>(alloc: Global, words: &[Text]) -> Result<C, WordsError>
+pub fn read_asked<C: FromValues>(alloc: Global, words: &[Text]) -> Result<C, WordsError>
     ensures ok { IfOk result (λ c. spelled C.called C.asked words.now ≡ Some c) }
     ensures usage { IsErrOf result Usage → spelled C.called C.asked words.now ≡ None }
 {

@@ -10,7 +10,7 @@ mod usage;
 mod values;
 mod words;
 
-pub use command::{FromValues, read_words};
+pub use command::{FromValues, read_asked};
 pub use table::{ENCODING, Entry, FANOUT, Form, LIBRARY, NODES, OUT, SEED, Setting};
 pub use usage::usage_line;
 pub use values::{

@@ -14,3 +14,4 @@ mod Placing
 mod Tied
 mod Models
 mod Written
+pub mod Supplies

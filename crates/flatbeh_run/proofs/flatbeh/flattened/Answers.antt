@@ -2,66 +2,61 @@ use Rattle.std.proofs.Common.{true, Err, sym, subst, arith}
 use Rattle.tool_drive.specs.declared.tool.Refusal.{Refusal}
 use Rattle.tool_drive.specs.Table.{IsJudged}
 use Rattle.machine_core.specs.Checked.{IsChecked}
-use Rattle.flatbeh_run.proofs.Supplies.{lists_supplies}
+use Rattle.vst_laws.proofs.Supplies.{lists_supplies}
 use Rattle.flatbeh_run.specs.Flatbeh.{Flattens}
-use Rattle.flatbeh_run.proofs.Refusing.{by_library, by_netlist, by_flat, by_names, by_clock}
+use Rattle.flatbeh_run.proofs.Refusing.{by_netlist, by_flat, by_names, by_clock}
 use Rattle.flatbeh_run.proofs.flatbeh.flattened.Goals as goal
 
 pub returns-in-Err : goal.returns-in-Err
-returns-in-Err c =
-    subst (λ (r : Refusal). IsJudged (Flattens c.args.command.now c.args.source.now c.args.catal.now c.args.cells.now) (Err r)) (sym c.plain.ensures)
-    (rw (c.library_status.ensures) (by_library c.args.command.now c.args.source.now c.args.catal.now c.args.cells.now c.in-Err.error c.in-Err.ensures.err))
-
-pub returns-in-Err-read_vst : goal.returns-in-Err-read_vst
-returns-in-Err-read_vst c =
-    subst (λ (r : Refusal). IsJudged (Flattens c.args.command.now c.args.source.now c.args.catal.now c.args.cells.now) (Err r)) (sym c.plain-in-Err-read_vst.ensures)
-    (by_netlist c.args.command.now c.args.source.now c.args.catal.now c.args.cells.now c.in-Ok.library c.in_ok-table.table c.in-Ok.ensures.ok c.in_ok-table.ensures.table c.in-Err-read_vst.error
-    c.refused.result c.in-Err-read_vst.ensures.refused c.refused.ensures)
+returns-in-Err c = λ catal cells library.
+    subst (λ (r : Refusal). IsJudged (Flattens c.args.command.now c.args.source.now catal cells) (Err r)) (sym c.plain.ensures)
+    (by_netlist c.args.command.now c.args.source.now catal cells c.args.library.now c.in_ok-table.table library c.in_ok-table.ensures.table c.in-Err.error
+    c.refused.result c.in-Err.ensures.refused c.refused.ensures)
 
 pub flatbeh-requires : goal.flatbeh-requires
 flatbeh-requires c =
-    (c.in_ok-table.table, c.in_ok-table.ensures.table, c.in-Ok-read_vst.ensures.condition (lists_supplies c.in-Ok.library true c.in_ok-table.table c.in_ok-table.ensures.table))
+    (c.in_ok-table.table, c.in_ok-table.ensures.table, c.in-Ok.ensures.condition (lists_supplies c.args.library.now true c.in_ok-table.table c.in_ok-table.ensures.table))
 
 pub returns-in-Err-flatbeh : goal.returns-in-Err-flatbeh
-returns-in-Err-flatbeh c =
-    subst (λ (r : Refusal). IsJudged (Flattens c.args.command.now c.args.source.now c.args.catal.now c.args.cells.now) (Err r)) (sym c.plain-in-Err-flatbeh.ensures)
-    (by_flat c.args.command.now c.args.source.now c.args.catal.now c.args.cells.now c.in-Ok.library c.in_ok-table.table c.in-Ok.ensures.ok c.in_ok-table.ensures.table c.in-Ok-read_vst.netlist
-    c.in-Ok-read_vst.ensures.accepted c.in-Err-flatbeh.error c.flat_status.result c.in-Err-flatbeh.ensures.refused c.flat_status.ensures)
+returns-in-Err-flatbeh c = λ catal cells library.
+    subst (λ (r : Refusal). IsJudged (Flattens c.args.command.now c.args.source.now catal cells) (Err r)) (sym c.plain-in-Err-flatbeh.ensures)
+    (by_flat c.args.command.now c.args.source.now catal cells c.args.library.now c.in_ok-table.table library c.in_ok-table.ensures.table c.in-Ok.netlist
+    c.in-Ok.ensures.accepted c.in-Err-flatbeh.error c.flat_status.result c.in-Err-flatbeh.ensures.refused c.flat_status.ensures)
 
 pub returns-then-names-from : goal.returns-then-names-from
-returns-then-names-from c =
-    subst (λ (r : Refusal). IsJudged (Flattens c.args.command.now c.args.source.now c.args.catal.now c.args.cells.now) (Err r)) (sym c.plain-then-names-from.ensures)
-    (by_names c.args.command.now c.args.source.now c.args.catal.now c.args.cells.now c.in-Ok.library c.in_ok-table.table c.in-Ok.ensures.ok c.in_ok-table.ensures.table c.in-Ok-read_vst.netlist
-    c.in-Ok-read_vst.ensures.accepted c.in-Ok-flatbeh.machine c.in-Ok-flatbeh.ensures.plain c.in-Ok-flatbeh.ensures.apart c.in-Ok-flatbeh.ensures.few
-    (c.in-Ok-flatbeh.ensures.machine c.in_ok-table.table c.in_ok-table.ensures.table (c.in-Ok-read_vst.ensures.condition (lists_supplies c.in-Ok.library true c.in_ok-table.table c.in_ok-table.ensures.table)))
+returns-then-names-from c = λ catal cells library.
+    subst (λ (r : Refusal). IsJudged (Flattens c.args.command.now c.args.source.now catal cells) (Err r)) (sym c.plain-then-names-from.ensures)
+    (by_names c.args.command.now c.args.source.now catal cells c.args.library.now c.in_ok-table.table library c.in_ok-table.ensures.table c.in-Ok.netlist
+    c.in-Ok.ensures.accepted c.in-Ok-flatbeh.machine c.in-Ok-flatbeh.ensures.plain c.in-Ok-flatbeh.ensures.apart c.in-Ok-flatbeh.ensures.few
+    (c.in-Ok-flatbeh.ensures.machine c.in_ok-table.table c.in_ok-table.ensures.table (c.in-Ok.ensures.condition (lists_supplies c.args.library.now true c.in_ok-table.table c.in_ok-table.ensures.table)))
     c.in-Ok-flatbeh.ensures.numbered (omega (arith, c.names_count-names.ensures, c.if-names-from.true, c.from.ensures)) c.names_count-names.result c.too_many.result c.names_count-names.ensures c.too_many.ensures)
 
 pub product-requires-clause-few : goal.product-requires-clause-few
 product-requires-clause-few c = omega (arith, c.names_count-names.ensures, c.if-names-from.false, c.from.ensures)
 
 pub returns-in-Some : goal.returns-in-Some
-returns-in-Some c =
-    subst (λ (r : Refusal). IsJudged (Flattens c.args.command.now c.args.source.now c.args.catal.now c.args.cells.now) (Err r)) (sym c.plain-in-Some.ensures)
-    (by_clock c.args.command.now c.args.source.now c.args.catal.now c.args.cells.now c.in-Ok.library c.in_ok-table.table c.in-Ok.ensures.ok c.in_ok-table.ensures.table c.in-Ok-read_vst.netlist
-    c.in-Ok-read_vst.ensures.accepted c.in-Ok-flatbeh.machine c.in-Ok-flatbeh.ensures.plain c.in-Ok-flatbeh.ensures.apart c.in-Ok-flatbeh.ensures.few
-    (c.in-Ok-flatbeh.ensures.machine c.in_ok-table.table c.in_ok-table.ensures.table (c.in-Ok-read_vst.ensures.condition (lists_supplies c.in-Ok.library true c.in_ok-table.table c.in_ok-table.ensures.table)))
+returns-in-Some c = λ catal cells library.
+    subst (λ (r : Refusal). IsJudged (Flattens c.args.command.now c.args.source.now catal cells) (Err r)) (sym c.plain-in-Some.ensures)
+    (by_clock c.args.command.now c.args.source.now catal cells c.args.library.now c.in_ok-table.table library c.in_ok-table.ensures.table c.in-Ok.netlist
+    c.in-Ok.ensures.accepted c.in-Ok-flatbeh.machine c.in-Ok-flatbeh.ensures.plain c.in-Ok-flatbeh.ensures.apart c.in-Ok-flatbeh.ensures.few
+    (c.in-Ok-flatbeh.ensures.machine c.in_ok-table.table c.in_ok-table.ensures.table (c.in-Ok.ensures.condition (lists_supplies c.args.library.now true c.in_ok-table.table c.in_ok-table.ensures.table)))
     (omega (arith, c.names_count-names.ensures, c.if-names-from.false, c.from.ensures)) c.in-Some.name.now c.clock_status.result c.in-Some.ensures c.clock_status.ensures)
 
 pub returns : goal.returns
-returns c = record {
-  l = c.in-Ok.library;
+returns c = λ catal cells library. record {
+  l = c.args.library.now;
   table = c.in_ok-table.table;
-  n = c.in-Ok-read_vst.netlist;
+  n = c.in-Ok.netlist;
   m = c.in-Ok-flatbeh.machine;
-  read = record { library = c.in-Ok.ensures.ok; pins = c.in_ok-table.ensures.table; netlist = c.in-Ok-read_vst.ensures.accepted };
+  read = record { library = library; pins = c.in_ok-table.ensures.table; netlist = c.in-Ok.ensures.accepted };
   plain = c.in-Ok-flatbeh.ensures.plain;
   apart = c.in-Ok-flatbeh.ensures.apart;
   few = c.in-Ok-flatbeh.ensures.few;
   flat = c.in-Ok-flatbeh.ensures.machine c.in_ok-table.table c.in_ok-table.ensures.table
-      (c.in-Ok-read_vst.ensures.condition (lists_supplies c.in-Ok.library true c.in_ok-table.table c.in_ok-table.ensures.table));
+      (c.in-Ok.ensures.condition (lists_supplies c.args.library.now true c.in_ok-table.table c.in_ok-table.ensures.table));
   numbered = c.in-Ok-flatbeh.ensures.numbered;
   countable = omega (arith, c.names_count-names.ensures, c.if-names-from.false, c.from.ensures);
   checked = subst IsChecked c.machine.view_is c.machine.invariant;
-  names = c.in-Ok-flatbeh.ensures.text (c.netlist_has_words.ensures c.args.source.now c.in_ok-table.table c.in-Ok-read_vst.netlist c.in-Ok-read_vst.ensures.accepted) c.in_default.ensures;
+  names = c.in-Ok-flatbeh.ensures.text (c.netlist_has_words.ensures c.args.source.now c.in_ok-table.table c.in-Ok.netlist c.in-Ok.ensures.accepted) c.in_default.ensures;
   written = c.in_ok-written.ensures;
 }
