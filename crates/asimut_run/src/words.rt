@@ -1,7 +1,8 @@
 // The words of `asimut`, and what they ask of it.
-
 use std::alloc::Global;
-use tool_words::{Entry, Form, FromValues, Setting, Values, WordsError, given, has_ending, source, text};
+use tool_words::{
+    Entry, Form, FromValues, Setting, Values, WordsError, given, has_ending, source, text,
+};
 use vlsi_base::FileName;
 
 /// What `asimut` is asked to do: to run patterns on the source.

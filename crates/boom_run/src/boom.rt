@@ -78,8 +78,12 @@ fn product(alloc: Global, command: &BoomCommand, machine: &Machine) -> Result<Pr
     })
 }
 
-// What the machine of a text comes to.
-fn smaller_of(alloc: Global, command: &BoomCommand, machine: &Machine) -> Result<Product, Refusal>
+// What the machine of a text comes to, optimised.
+fn optimised_source(
+    alloc: Global,
+    command: &BoomCommand,
+    machine: &Machine,
+) -> Result<Product, Refusal>
     requires { (source : List ℕ) × IsVbe source machine.now }
     ensures { (source : List ℕ) → IsVbe source machine.now → IsJudged (MakesSmaller command.now source) result }
 {
@@ -110,7 +114,7 @@ fn made_smaller(alloc: Global, command: &BoomCommand, source: &[u8]) -> Result<P
         Ok(machine) => machine,
         Err(error) => return Err(Refusal::plain(refused(alloc, &command.source, error))),
     };
-    smaller_of(alloc, command, &machine)
+    optimised_source(alloc, command, &machine)
 }
 
 impl Tool for Boom<'_> {

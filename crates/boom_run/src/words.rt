@@ -1,5 +1,4 @@
 // The words of `boom`, and what they ask of it.
-
 use std::alloc::Global;
 use tool_words::{Entry, FromValues, NODES, OUT, Values, WordsError, number, source, text};
 use vlsi_base::FileName;

@@ -12,9 +12,7 @@ use cell_checks::Library;
 use cell_lib::LibraryTool;
 use druc_rules::{Breach, DrucError, Rules, broken, standard_rules_law};
 use std::alloc::{AllocError, Global};
-use tool_drive::{
-    Product, Refusal, Status, Verdict, Wanted, bytes_at, refused, unknown_cell,
-};
+use tool_drive::{Product, Refusal, Status, Verdict, Wanted, bytes_at, refused, unknown_cell};
 use vlsi_base::{FileBytes, FileName};
 
 /// `druc`, with what it is asked: it prints a line for each breach of the rules in the layout in SOURCE, and then `breaches` and how

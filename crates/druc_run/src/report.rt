@@ -1,21 +1,13 @@
 // The lines of breaches.
-ghost use Rattle.std.specs.Prelude.{◌≡◌, ◌∷◌, ◌++◌, codes, length, IfOk, OnOk};
-ghost use Rattle.std.specs.Fmt.{decimal, signed_decimal};
+ghost use Rattle.std.specs.Prelude.{◌≡◌, ◌∷◌, ◌++◌, IfOk, OnOk};
+ghost use Rattle.std.specs.Fmt.{signed_decimal};
 ghost use Rattle.druc_run.specs.Report.{rect_text, breach_text, breaches_text, report as report_of};
 
 use druc_rules::Breach;
 use std::alloc::{AllocError, Global};
 use sym_geom::Rect;
+use tool_drive::push_number;
 use vlsi_base::FileBytes;
-
-/// A word and a number.
-fn counted(alloc: Global, out: &mut FileBytes, word: &[u8], n: u64) -> Result<(), AllocError>
-    ensures { OnOk result (out.new ≡ out.old ++ (word.now ++ decimal n)) }
-{
-    let text = n.to_string(alloc)?;
-    out.append(word)?;
-    out.append(text.as_bytes())
-}
 
 /// A coordinate behind a blank.
 fn edge(alloc: Global, out: &mut FileBytes, n: &i64) -> Result<(), AllocError>
@@ -42,11 +34,13 @@ fn line(alloc: Global, out: &mut FileBytes, breach: &Breach) -> Result<(), Alloc
 {
     match breach {
         Breach::Width { metal, rect } => {
-            counted(alloc, out, b"width ", u64::from(*metal))?;
+            out.append(b"width ")?;
+            push_number(alloc, out, u64::from(*metal))?;
             rectangle(alloc, out, rect)?;
         }
         Breach::Gap { metal, a, b } => {
-            counted(alloc, out, b"gap ", u64::from(*metal))?;
+            out.append(b"gap ")?;
+            push_number(alloc, out, u64::from(*metal))?;
             rectangle(alloc, out, a)?;
             rectangle(alloc, out, b)?;
         }
@@ -62,6 +56,7 @@ pub(crate) fn report(alloc: Global, breaches: &[Breach]) -> Result<FileBytes, Al
     for breach in breaches {
         line(alloc, &mut text, breach)?;
     }
-    counted(alloc, &mut text, b"breaches ", breaches.len() as u64)?;
+    text.append(b"breaches ")?;
+    push_number(alloc, &mut text, breaches.len() as u64)?;
     Ok(text)
 }

@@ -1,5 +1,4 @@
 // The words of `druc`, and what they ask of it.
-
 use std::alloc::Global;
 use tool_words::{Entry, FromValues, LIBRARY, Values, WordsError, source, text};
 use vlsi_base::FileName;

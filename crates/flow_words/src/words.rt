@@ -4,7 +4,10 @@ ghost use Rattle.tool_words.specs.declared.words.WordsError.TheVariants.{Usage};
 ghost use Rattle.flow_words.specs.Words.{numbers_of, flow_on};
 
 use std::alloc::Global;
-use tool_words::{ENCODING, Encoding, Entry, FANOUT, Form, FromValues, LIBRARY, NODES, OUT, SEED, Setting, Values, WordsError, encoding_given, number, number_if_given, source, text};
+use tool_words::{
+    ENCODING, Encoding, Entry, FANOUT, Form, FromValues, LIBRARY, NODES, OUT, SEED, Setting,
+    Values, WordsError, encoding_given, number, number_if_given, source, text,
+};
 use vlsi_base::FileName;
 
 /// What `flow` is asked to do: to lay the source out with the cells of the library, in tracks.

@@ -1,7 +1,8 @@
 // The words of `loon`, and what they ask of it.
-
 use std::alloc::Global;
-use tool_words::{Entry, FANOUT, FromValues, LIBRARY, OUT, Values, WordsError, number, source, text};
+use tool_words::{
+    Entry, FANOUT, FromValues, LIBRARY, OUT, Values, WordsError, number, source, text,
+};
 use vlsi_base::FileName;
 
 /// What `loon` is asked to do: to put buffers into a netlist of the library's cells, and to choose the cells that make it fast.

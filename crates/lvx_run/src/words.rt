@@ -1,5 +1,4 @@
 // The words of `lvx`, and what they ask of it.
-
 use std::alloc::Global;
 use tool_words::{Entry, Form, FromValues, LIBRARY, Setting, Values, WordsError, source, text};
 use vlsi_base::FileName;

@@ -1,7 +1,8 @@
 // The words of `proof`, and what they ask of it.
-
 use std::alloc::Global;
-use tool_words::{Entry, Form, FromValues, NODES, Setting, Values, WordsError, number, source, text};
+use tool_words::{
+    Entry, Form, FromValues, NODES, Setting, Values, WordsError, number, source, text,
+};
 use vlsi_base::FileName;
 
 /// What `proof` is asked to do: to compare two sources as functions.

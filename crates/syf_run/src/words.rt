@@ -1,7 +1,9 @@
 // The words of `syf`, and what they ask of it.
-
 use std::alloc::Global;
-use tool_words::{ENCODING, Encoding, Entry, FromValues, OUT, SEED, Values, WordsError, encoding_given, number, source, text};
+use tool_words::{
+    ENCODING, Encoding, Entry, FromValues, OUT, SEED, Values, WordsError, encoding_given, number,
+    source, text,
+};
 use vlsi_base::FileName;
 
 /// What `syf` is asked to do: to make a data-flow text of a state machine.

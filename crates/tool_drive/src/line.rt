@@ -5,17 +5,10 @@ ghost use Rattle.tool_drive.specs.Lines.{names_text, source_text, library_text, 
 ghost use Rattle.tool_drive.specs.Outside.{IsLine};
 ghost use Rattle.vlsi_base.specs.Name.{name_text};
 
-use crate::{FileCause, LibraryFault, Status, Verdict};
+use crate::{FileCause, LibraryFault, Status, Verdict, push_number};
 use std::alloc::{AllocError, Global};
 use vlsi_base::{FileBytes, FileName, InputFault, Limit, Name, Terminal};
 use vlsi_shelf::Sink;
-
-fn number(alloc: Global, out: &mut FileBytes, n: u64) -> Result<(), AllocError>
-    ensures { OnOk result (out.new ≡ out.old ++ decimal n) }
-{
-    let digits = n.to_string(alloc)?;
-    out.append(digits.as_bytes())
-}
 
 fn name(alloc: Global, out: &mut FileBytes, name: &Name) -> Result<(), AllocError>
     ensures { OnOk result (out.new ≡ out.old ++ name_text name.now) }
@@ -44,7 +37,7 @@ fn fault(alloc: Global, out: &mut FileBytes, fault: &InputFault) -> Result<(), A
     ensures { OnOk result (out.new ≡ out.old ++ source_text [] fault.now) }
 {
     out.append(b":")?;
-    number(alloc, out, u64::from(fault.line))?;
+    push_number(alloc, out, u64::from(fault.line))?;
     out.append(b": ")?;
     out.append(fault.kind.as_str().as_bytes())?;
     names(alloc, out, fault.names.as_slice())
@@ -68,7 +61,7 @@ fn limit(alloc: Global, out: &mut FileBytes, limit: &Limit) -> Result<(), AllocE
     out.append(b"limit: ")?;
     out.append(limit.which.as_str().as_bytes())?;
     out.append(b" ")?;
-    number(alloc, out, limit.reached)
+    push_number(alloc, out, limit.reached)
 }
 
 fn verdict(alloc: Global, out: &mut FileBytes, verdict: &Verdict) -> Result<(), AllocError>
@@ -108,12 +101,12 @@ fn library(alloc: Global, out: &mut FileBytes, fault: &LibraryFault) -> Result<(
     match fault {
         LibraryFault::BadCatal(line) => {
             out.append(b"catal ")?;
-            number(alloc, out, u64::from(*line))
+            push_number(alloc, out, u64::from(*line))
         }
         LibraryFault::BadCell { cell, cause } => {
             out.append(cell.as_bytes())?;
             out.append(b" ")?;
-            number(alloc, out, u64::from(*cause))
+            push_number(alloc, out, u64::from(*cause))
         }
     }
 }
@@ -138,13 +131,13 @@ fn budget(
 {
     name(alloc, out, equation)?;
     out.append(b" ")?;
-    number(alloc, out, reached)
+    push_number(alloc, out, reached)
 }
 
 fn no_path(alloc: Global, out: &mut FileBytes, net: u32, stuck: &Terminal) -> Result<(), AllocError>
     ensures { OnOk result (out.new ≡ out.old ++ (decimal net ++ (codes " " ++ terminal_text stuck.now))) }
 {
-    number(alloc, out, u64::from(net))?;
+    push_number(alloc, out, u64::from(net))?;
     out.append(b" ")?;
     terminal(alloc, out, stuck)
 }

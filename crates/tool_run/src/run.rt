@@ -68,17 +68,27 @@ pub fn run_tool<S: Shelf, T: Sink>(
         }
         Command::Asimut(task) => run_asimut(alloc, task, shelf, out),
         Command::Cougar(command) => {
-            drive(alloc, b"cougar", &WithLibrary(Cougar { command }), shelf, out)
+            drive(
+                alloc,
+                b"cougar",
+                &WithLibrary(Cougar { command }),
+                shelf,
+                out,
+            )
         }
-        Command::Lvx(command) => {
-            drive(alloc, b"lvx", &WithLibrary(Lvx { command }), shelf, out)
-        }
+        Command::Lvx(command) => { drive(alloc, b"lvx", &WithLibrary(Lvx { command }), shelf, out) }
         Command::Druc(command) => {
             drive(alloc, b"druc", &WithLibrary(Druc { command }), shelf, out)
         }
         Command::Proof(command) => drive(alloc, b"proof", &Proof { command }, shelf, out),
         Command::Flatbeh(command) => {
-            drive(alloc, b"flatbeh", &WithLibrary(Flatbeh { command }), shelf, out)
+            drive(
+                alloc,
+                b"flatbeh",
+                &WithLibrary(Flatbeh { command }),
+                shelf,
+                out,
+            )
         }
     }
 }

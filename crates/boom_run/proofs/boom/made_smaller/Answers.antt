@@ -10,8 +10,8 @@ returns-in-Err c =
     subst (λ (r : Refusal). IsJudged (MakesSmaller c.args.command.now c.args.source.now) (Err r)) (sym c.plain.ensures)
     (by_source c.args.command.now c.args.source.now c.in-Err.error c.refused.result c.in-Err.ensures.refused c.refused.ensures)
 
-pub smaller_of-requires : goal.smaller_of-requires
-smaller_of-requires c = (c.args.source.now, c.in-Ok.ensures.accepted)
+pub optimised_source-requires : goal.optimised_source-requires
+optimised_source-requires c = (c.args.source.now, c.in-Ok.ensures.accepted)
 
 pub returns : goal.returns
-returns c = c.smaller_of.ensures c.args.source.now c.in-Ok.ensures.accepted
+returns c = c.optimised_source.ensures c.args.source.now c.in-Ok.ensures.accepted

@@ -5,7 +5,7 @@ use Rattle.boom_run.specs.Boom.{MakesSmaller}
 use Rattle.boom_run.proofs.Declared.{can_be_vbe}
 use Rattle.boom_run.proofs.FewNames.{few_made, few_weighed}
 use Rattle.boom_run.proofs.Refusing.{by_size, by_budget}
-use Rattle.boom_run.proofs.boom.smaller_of.Goals as goal
+use Rattle.boom_run.proofs.boom.optimised_source.Goals as goal
 
 pub returns-in-Err : goal.returns-in-Err
 returns-in-Err c = λ source read.
