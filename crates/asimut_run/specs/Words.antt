@@ -3,7 +3,6 @@ use Rattle.std.specs.Prelude.{ℕ, Bool, true, false, List, [], ◌∷◌, Optio
 use Rattle.tool_words.specs.Table.{Entry, Setting, Text, Ending}
 use Rattle.tool_words.specs.Arguments.{Given}
 use Rattle.tool_words.specs.Values.{has_ending, source_of, text_of}
-use Rattle.tool_words.specs.Spelling.{spelled}
 use Rattle.asimut_run.specs.declared.words.AsimutTask.{AsimutTask}
 use Rattle.asimut_run.specs.declared.words.AsimutTask.TheVariants as task
 
@@ -30,7 +29,3 @@ asimut_with _ _ _ = None
 
 abbrev pub asimut_from : Given → Option AsimutTask
 asimut_from g = asimut_with (source_of asimut.endings g) (text_of patterns g) (text_of netlist_library g)
-
--- the task that the words behind `asimut` spell
-abbrev pub asimut_of : List (List ℕ) → Option AsimutTask
-asimut_of words = spelled asimut asimut_from words

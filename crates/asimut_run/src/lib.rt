@@ -10,6 +10,4 @@ mod source;
 mod words;
 
 pub use laws::asimut_law;
-pub use netlist::AsimutNetlist;
-pub use source::Asimut;
 pub use words::{ASIMUT_ENTRY, AsimutCommand, AsimutNetlistCommand, AsimutTask};

@@ -20,18 +20,6 @@ use tool_drive::{Product, Refusal, Status, Verdict, Wanted, bytes_at, refused};
 use vlsi_base::{FileBytes, FileName, Limit, LimitKind};
 use vst_io::read_vst;
 
-/// `asimut` on a netlist, with what it is asked: it runs PATTERNS on the netlist in SOURCE and prints them with every output filled
-/// in.
-///
-/// All files are read first: SOURCE, PATTERNS, CATAL, and the behaviour and the layout of each cell that this uses. Then it is
-/// refused, in this order: by `Library`, or a limit of CATAL or of a cell; by `Source`, or a limit, of SOURCE, then of PATTERNS; by
-/// `NoBehaviour`, at the first instance whose cell is opaque; by `Limit` of `Bits`, where the netlist's machine has 2^32 bits or
-/// more; by `Differs`, at the first bit. Memory goes by the files, the netlist and its machine.
-#[derive(Drop)]
-pub struct AsimutNetlist<'a> {
-    pub command: &'a AsimutNetlistCommand,
-}
-
 fn refusal(alloc: Global, patterns: &[Pattern], error: NetSimError) -> Status
     ensures { IsToldOf patterns.now error result }
 {
@@ -97,26 +85,33 @@ fn simulated(
     on_netlist(alloc, command, bytes_at(first, 1), library, &netlist)
 }
 
-impl LibraryTool for AsimutNetlist<'_> {
+/// `asimut` on a netlist, with what it is asked: it runs PATTERNS on the netlist in SOURCE and prints them with every output filled
+/// in.
+///
+/// All files are read first: SOURCE, PATTERNS, CATAL, and the behaviour and the layout of each cell that this uses. Then it is
+/// refused, in this order: by `Library`, or a limit of CATAL or of a cell; by `Source`, or a limit, of SOURCE, then of PATTERNS; by
+/// `NoBehaviour`, at the first instance whose cell is opaque; by `Limit` of `Bits`, where the netlist's machine has 2^32 bits or
+/// more; by `Differs`, at the first bit. Memory goes by the files, the netlist and its machine.
+impl LibraryTool for AsimutNetlistCommand {
     ghost use Rattle.std.specs.Prelude.{refl, [], ◌∷◌};
     ghost use Rattle.tool_drive.specs.Plan.{limited, large};
     ghost use Rattle.asimut_run.specs.Netlist.{netlist_answers, no_library};
 
-    ghost files = { λ t. large t.command.now.source ∷ limited t.command.now.patterns ∷ [] };
+    ghost files = { λ t. large t.source ∷ limited t.patterns ∷ [] };
 
-    ghost folder = { λ t. t.command.now.library };
+    ghost folder = { λ t. t.library };
 
-    ghost answers = { λ t. netlist_answers t.command.now };
+    ghost answers = { netlist_answers };
 
     fn own_files(&self, alloc: Global) -> Result<Vec<Wanted>, AllocError> {
         let mut wanted = Vec::new(alloc);
-        wanted.push(Wanted::large(self.command.source.copy(alloc)?))?;
-        wanted.push(Wanted::limited(self.command.patterns.copy(alloc)?))?;
+        wanted.push(Wanted::large(self.source.copy(alloc)?))?;
+        wanted.push(Wanted::limited(self.patterns.copy(alloc)?))?;
         Ok(wanted)
     }
 
     fn library_folder(&self) -> &FileName {
-        &self.command.library
+        &self.library
     }
 
     fn judge_with(
@@ -125,7 +120,7 @@ impl LibraryTool for AsimutNetlist<'_> {
         library: &Library,
         first: &[FileBytes],
     ) -> Result<Product, Refusal> {
-        simulated(alloc, self.command, library, first)
+        simulated(alloc, self, library, first)
     }
 
     ghost refuses = { λ t first more e h. (refl, no_library e h refl) };

@@ -12,12 +12,6 @@ use tool_drive::{Product, Refusal, Status, Tool, Verdict, Wanted, bytes_at, refu
 use vbe_io::read_vbe;
 use vlsi_base::{FileBytes, Text, push_u64};
 
-/// `asimut`, with what it is asked.
-#[derive(Drop)]
-pub struct Asimut<'a> {
-    pub command: &'a AsimutCommand,
-}
-
 // The label of the pattern with this number from 0, or the number.
 pub(crate) fn label(alloc: Global, patterns: &[Pattern], number: usize) -> Result<Text, AllocError>
     ensures { IfOk result (λ label. label ≡ label_of patterns.now number) }
@@ -77,17 +71,18 @@ fn simulated(
     })
 }
 
-impl Tool for Asimut<'_> {
+/// `asimut`, with what it is asked.
+impl Tool for AsimutCommand {
     ghost use Rattle.asimut_run.specs.Asimut.{asimut_plan, asimut_answers};
 
-    ghost plan = { λ t. asimut_plan t.command.now };
+    ghost plan = { asimut_plan };
 
-    ghost answers = { λ t. asimut_answers t.command.now };
+    ghost answers = { asimut_answers };
 
     fn first(&self, alloc: Global) -> Result<Vec<Wanted>, AllocError> {
         let mut wanted = Vec::new(alloc);
-        wanted.push(Wanted::limited(self.command.source.copy(alloc)?))?;
-        wanted.push(Wanted::limited(self.command.patterns.copy(alloc)?))?;
+        wanted.push(Wanted::limited(self.source.copy(alloc)?))?;
+        wanted.push(Wanted::limited(self.patterns.copy(alloc)?))?;
         Ok(wanted)
     }
 
@@ -101,6 +96,6 @@ impl Tool for Asimut<'_> {
         first: &[FileBytes],
         _: &[FileBytes],
     ) -> Result<Product, Refusal> {
-        simulated(alloc, self.command, bytes_at(first, 0), bytes_at(first, 1))
+        simulated(alloc, self, bytes_at(first, 0), bytes_at(first, 1))
     }
 }

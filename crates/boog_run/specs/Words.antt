@@ -3,7 +3,6 @@ use Rattle.std.specs.Prelude.{ℕ, List, [], ◌∷◌, Option, None, Some, code
 use Rattle.tool_words.specs.Table.{Entry, library, out}
 use Rattle.tool_words.specs.Arguments.{Given}
 use Rattle.tool_words.specs.Values.{source_of, text_of}
-use Rattle.tool_words.specs.Spelling.{spelled}
 use Rattle.boog_run.specs.declared.words.BoogCommand.{BoogCommand}
 
 abbrev pub boog : Entry
@@ -16,7 +15,3 @@ boog_with _ _ _ = None
 
 abbrev pub boog_from : Given → Option BoogCommand
 boog_from g = boog_with (source_of boog.endings g) (text_of library g) (text_of out g)
-
--- the command that the words behind `boog` spell
-abbrev pub boog_of : List (List ℕ) → Option BoogCommand
-boog_of words = spelled boog boog_from words

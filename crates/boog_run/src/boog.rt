@@ -14,18 +14,6 @@ use vbe_io::read_vbe;
 use vbe_writable::{catal_is_named, cell_can_be_written, machine_can_be_written, machine_is_named};
 use vlsi_base::{FileBytes, FileName};
 
-/// `boog`, with what it is asked: it maps the machine of SOURCE to usable cells of the library, writes the netlist to NAME.vst, and
-/// prints `cells` and the number of its instances.
-///
-/// All files are read first: SOURCE, CATAL, and the behaviour and the layout of each cell that this uses. Then it is refused, in this
-/// order: by `Library`, or a limit of CATAL or a cell, at the first line or cell at fault; by `Source`, or a limit of the text; by
-/// `Limit` of `Size`, where the machine weighs more than `MOST_SIZE`; by `NoCover`, where the library has no usable cell of a kind.
-/// Memory goes by the files, the machine and its netlist.
-#[derive(Drop)]
-pub struct Boog<'a> {
-    pub command: &'a BoogCommand,
-}
-
 // What the source comes to.
 fn mapped(
     alloc: Global,
@@ -53,25 +41,32 @@ fn mapped(
     Ok(written)
 }
 
-impl LibraryTool for Boog<'_> {
+/// `boog`, with what it is asked: it maps the machine of SOURCE to usable cells of the library, writes the netlist to NAME.vst, and
+/// prints `cells` and the number of its instances.
+///
+/// All files are read first: SOURCE, CATAL, and the behaviour and the layout of each cell that this uses. Then it is refused, in this
+/// order: by `Library`, or a limit of CATAL or a cell, at the first line or cell at fault; by `Source`, or a limit of the text; by
+/// `Limit` of `Size`, where the machine weighs more than `MOST_SIZE`; by `NoCover`, where the library has no usable cell of a kind.
+/// Memory goes by the files, the machine and its netlist.
+impl LibraryTool for BoogCommand {
     ghost use Rattle.std.specs.Prelude.{refl, [], ◌∷◌};
     ghost use Rattle.tool_drive.specs.Plan.{limited};
     ghost use Rattle.boog_run.specs.Boog.{boog_answers, no_library};
 
-    ghost files = { λ t. limited t.command.now.source ∷ [] };
+    ghost files = { λ t. limited t.source ∷ [] };
 
-    ghost folder = { λ t. t.command.now.library };
+    ghost folder = { λ t. t.library };
 
-    ghost answers = { λ t. boog_answers t.command.now };
+    ghost answers = { boog_answers };
 
     fn own_files(&self, alloc: Global) -> Result<Vec<Wanted>, AllocError> {
         let mut wanted = Vec::new(alloc);
-        wanted.push(Wanted::limited(self.command.source.copy(alloc)?))?;
+        wanted.push(Wanted::limited(self.source.copy(alloc)?))?;
         Ok(wanted)
     }
 
     fn library_folder(&self) -> &FileName {
-        &self.command.library
+        &self.library
     }
 
     fn judge_with(
@@ -80,7 +75,7 @@ impl LibraryTool for Boog<'_> {
         library: &Library,
         first: &[FileBytes],
     ) -> Result<Product, Refusal> {
-        mapped(alloc, self.command, library, bytes_at(first, 0))
+        mapped(alloc, self, library, bytes_at(first, 0))
     }
 
     ghost refuses = { λ t first more e h. (refl, no_library e h refl) };

@@ -9,7 +9,6 @@ mod laws;
 mod netlist;
 mod words;
 
-pub use boog::Boog;
 pub use laws::{boog_law, netlist_law};
 pub use netlist::{covered_netlist, netlist_of};
 pub use words::{BOOG_ENTRY, BoogCommand};

@@ -15,7 +15,7 @@ use net_core::Netlist;
 use net_right::right_meets_condition;
 use std::alloc::{AllocError, Global};
 use subject_graph::Graph;
-use tool_drive::{Product, Status, check_size, count_line};
+use tool_drive::{Product, Status, check_size, count_text, file_name};
 use vlsi_base::{FileBytes, FileName};
 use vst_print::{WriteError, write_vst};
 
@@ -66,9 +66,7 @@ pub fn covered_netlist(
 fn report(alloc: Global, netlist: &Netlist) -> Result<FileBytes, AllocError>
     ensures { IfOk result (λ text. text ≡ report_of netlist.now) }
 {
-    let mut text = FileBytes::new(Vec::new(alloc));
-    count_line(alloc, &mut text, b"cells", netlist.nodes().len() as u128)?;
-    Ok(text)
+    count_text(alloc, b"cells", netlist.nodes().len() as u128)
 }
 
 /// The netlist's file, NAME.vst, and what is printed.
@@ -87,8 +85,7 @@ pub(crate) fn product(
         Err(WriteError::Memory) => return Err(AllocError),
         Err(WriteError::BadMap) => unreachable!(),
     };
-    let mut name = out.copy(alloc)?;
-    name.append(b".vst")?;
+    let name = file_name(alloc, out, b".vst")?;
     Ok(Product {
         name,
         file: Some(file),

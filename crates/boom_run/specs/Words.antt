@@ -3,7 +3,6 @@ use Rattle.std.specs.Prelude.{ℕ, List, [], ◌∷◌, Option, None, Some, code
 use Rattle.tool_words.specs.Table.{Entry, out, nodes}
 use Rattle.tool_words.specs.Arguments.{Given}
 use Rattle.tool_words.specs.Values.{source_of, text_of, number_of}
-use Rattle.tool_words.specs.Spelling.{spelled}
 use Rattle.boom_run.specs.declared.words.BoomCommand.{BoomCommand}
 
 abbrev pub boom : Entry
@@ -16,7 +15,3 @@ boom_with _ _ _ = None
 
 abbrev pub boom_from : Given → Option BoomCommand
 boom_from g = boom_with (source_of boom.endings g) (text_of out g) (number_of nodes g)
-
--- the command that the words behind `boom` spell
-abbrev pub boom_of : List (List ℕ) → Option BoomCommand
-boom_of words = spelled boom boom_from words

@@ -14,24 +14,13 @@ use boom_opt::{BoomError, Optimised, optimise};
 use machine_core::{Machine, machine_size};
 use std::alloc::{AllocError, Global};
 use tool_drive::{
-    Product, Refusal, Status, Tool, Wanted, bytes_at, check_size, count_line, refused,
+    Product, Refusal, Status, Tool, Wanted, bytes_at, check_size, count_text, file_name, refused,
 };
 use vbe_io::read_vbe;
 use vbe_laws::source_has_few_names;
 use vbe_print::write_vbe;
 use vbe_writable::{in_order_can_be_written, machine_is_named, registers_are_named};
 use vlsi_base::FileBytes;
-
-/// `boom`, with what it is asked: it makes the machine of SOURCE smaller, writes it to NAME.vbe, and prints `size` and how large it
-/// is.
-///
-/// It is refused, in this order: by `Source`, or a limit of the text; by `Limit` of `Size`, where the machine weighs more than
-/// `MOST_SIZE`; by `Budget`, at the first root whose diagram has more nodes than asked for. Memory goes by the file, the machine and
-/// one diagram.
-#[derive(Drop)]
-pub struct Boom<'a> {
-    pub command: &'a BoomCommand,
-}
 
 /// The machine made smaller, and the most nodes that a diagram of the given one's roots has; or the status that tells why there is
 /// none: `Budget`, at the first root whose diagram has more nodes than this, or out of memory.
@@ -56,9 +45,7 @@ fn report(alloc: Global, machine: &Machine) -> Result<FileBytes, AllocError>
     requires { size_of machine.now ≤ MOST_SIZE }
     ensures { IfOk result (λ text. text ≡ report_of machine.now) }
 {
-    let mut text = FileBytes::new(Vec::new(alloc));
-    count_line(alloc, &mut text, b"size", u128::from(machine_size(machine)))?;
-    Ok(text)
+    count_text(alloc, b"size", u128::from(machine_size(machine)))
 }
 
 // The smaller source's file, NAME.vbe, and what is printed.
@@ -68,8 +55,7 @@ fn product(alloc: Global, command: &BoomCommand, machine: &Machine) -> Result<Pr
     requires names { CanBeVbe machine.now }
     ensures { IfOk result (λ p. IsWrittenAs command.now machine.now p) }
 {
-    let mut name = command.out.copy(alloc)?;
-    name.append(b".vbe")?;
+    let name = file_name(alloc, &command.out, b".vbe")?;
     let file = write_vbe(alloc, machine)?;
     Ok(Product {
         name,
@@ -117,16 +103,22 @@ fn made_smaller(alloc: Global, command: &BoomCommand, source: &[u8]) -> Result<P
     optimised_source(alloc, command, &machine)
 }
 
-impl Tool for Boom<'_> {
+/// `boom`, with what it is asked: it makes the machine of SOURCE smaller, writes it to NAME.vbe, and prints `size` and how large it
+/// is.
+///
+/// It is refused, in this order: by `Source`, or a limit of the text; by `Limit` of `Size`, where the machine weighs more than
+/// `MOST_SIZE`; by `Budget`, at the first root whose diagram has more nodes than asked for. Memory goes by the file, the machine and
+/// one diagram.
+impl Tool for BoomCommand {
     ghost use Rattle.boom_run.specs.Boom.{boom_plan, boom_answers};
 
-    ghost plan = { λ t. boom_plan t.command.now };
+    ghost plan = { boom_plan };
 
-    ghost answers = { λ t. boom_answers t.command.now };
+    ghost answers = { boom_answers };
 
     fn first(&self, alloc: Global) -> Result<Vec<Wanted>, AllocError> {
         let mut wanted = Vec::new(alloc);
-        wanted.push(Wanted::limited(self.command.source.copy(alloc)?))?;
+        wanted.push(Wanted::limited(self.source.copy(alloc)?))?;
         Ok(wanted)
     }
 
@@ -140,6 +132,6 @@ impl Tool for Boom<'_> {
         first: &[FileBytes],
         _more: &[FileBytes],
     ) -> Result<Product, Refusal> {
-        made_smaller(alloc, self.command, bytes_at(first, 0))
+        made_smaller(alloc, self, bytes_at(first, 0))
     }
 }

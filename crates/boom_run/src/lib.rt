@@ -7,5 +7,5 @@
 mod boom;
 mod words;
 
-pub use boom::{Boom, optimise_within};
+pub use boom::optimise_within;
 pub use words::{BOOM_ENTRY, BoomCommand};

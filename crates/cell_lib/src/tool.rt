@@ -55,7 +55,7 @@ pub trait LibraryTool {
 
 /// Such a tool for the driver: it reads its own files, then CATAL, and then behaviour and layout of each cell that this uses.
 #[derive(Drop)]
-pub struct WithLibrary<T>(pub T);
+pub struct WithLibrary<'a, T>(pub &'a T);
 
 // What stands in CATAL, the last of the files that the words name.
 fn catal_in(first: &[FileBytes]) -> &[u8]
@@ -64,12 +64,12 @@ fn catal_in(first: &[FileBytes]) -> &[u8]
     bytes_at(first, first.len().saturating_sub(1))
 }
 
-impl<T: LibraryTool> Tool for WithLibrary<T> {
+impl<T: LibraryTool> Tool for WithLibrary<'_, T> {
     ghost use Rattle.cell_lib.specs.Files.{with_library};
 
-    ghost plan = { λ w. with_library (T.files w.0) (T.folder w.0) };
+    ghost plan = { λ w. with_library (T.files w.0.now) (T.folder w.0.now) };
 
-    ghost answers = { λ w. T.answers w.0 };
+    ghost answers = { λ w. T.answers w.0.now };
 
     fn first(&self, alloc: Global) -> Result<Vec<Wanted>, AllocError> {
         let mut wanted = self.0.own_files(alloc)?;

@@ -3,7 +3,6 @@ use Rattle.std.specs.Prelude.{ℕ, List, [], ◌∷◌, Option, None, Some, code
 use Rattle.tool_words.specs.Table.{Entry, library, out}
 use Rattle.tool_words.specs.Arguments.{Given}
 use Rattle.tool_words.specs.Values.{source_of, text_of}
-use Rattle.tool_words.specs.Spelling.{spelled}
 use Rattle.cougar_run.specs.declared.words.CougarCommand.{CougarCommand}
 
 abbrev pub cougar : Entry
@@ -16,7 +15,3 @@ cougar_with _ _ _ = None
 
 abbrev pub cougar_from : Given → Option CougarCommand
 cougar_from g = cougar_with (source_of cougar.endings g) (text_of library g) (text_of out g)
-
--- the command that the words behind `cougar` spell
-abbrev pub cougar_of : List (List ℕ) → Option CougarCommand
-cougar_of words = spelled cougar cougar_from words

@@ -19,19 +19,6 @@ use vbe_writable::cell_can_be_written;
 use vlsi_base::{FaultKind, FileBytes, FileName};
 use vst_print::WriteError;
 
-/// `cougar`, with what it is asked: it takes the netlist out of the layout in SOURCE, writes it to NAME.vst, and prints `cells` and
-/// the number of its instances, and `nets` and that of its classes without those of the supplies.
-///
-/// All files are read first: SOURCE, CATAL, and the behaviour and the layout of each cell that this uses. Then it is refused, in
-/// this order: by `Library`, or a limit of CATAL or of a cell, at the first line or cell at fault; by `Source`, or a limit, of
-/// SOURCE; by `Source` of `UnknownCell`, at the first instance of a cell that the library hasn't; by `Limit` of `Size`, where there
-/// are 2^32 or more shapes; by `Limit` of `Bits`, where there are 2^32 or more ports and pins of instances; by `Shorted`, where two
-/// ports are joined; by `Source` of `BadMap`, where names can't be written. Memory goes by the files and the shapes of the layout.
-#[derive(Drop)]
-pub struct Cougar<'a> {
-    pub command: &'a CougarCommand,
-}
-
 // How a refusal of extraction is told.
 fn extract_status(alloc: Global, command: &CougarCommand, error: ExtractError) -> Status
     ensures { MemoryOr result (IsToldOf command.now error result) }
@@ -89,25 +76,33 @@ fn extracted(
     }
 }
 
-impl LibraryTool for Cougar<'_> {
+/// `cougar`, with what it is asked: it takes the netlist out of the layout in SOURCE, writes it to NAME.vst, and prints `cells` and
+/// the number of its instances, and `nets` and that of its classes without those of the supplies.
+///
+/// All files are read first: SOURCE, CATAL, and the behaviour and the layout of each cell that this uses. Then it is refused, in
+/// this order: by `Library`, or a limit of CATAL or of a cell, at the first line or cell at fault; by `Source`, or a limit, of
+/// SOURCE; by `Source` of `UnknownCell`, at the first instance of a cell that the library hasn't; by `Limit` of `Size`, where there
+/// are 2^32 or more shapes; by `Limit` of `Bits`, where there are 2^32 or more ports and pins of instances; by `Shorted`, where two
+/// ports are joined; by `Source` of `BadMap`, where names can't be written. Memory goes by the files and the shapes of the layout.
+impl LibraryTool for CougarCommand {
     ghost use Rattle.std.specs.Prelude.{refl, [], ◌∷◌};
     ghost use Rattle.tool_drive.specs.Plan.{large};
     ghost use Rattle.cougar_run.specs.Cougar.{cougar_answers, no_library};
 
-    ghost files = { λ t. large t.command.now.source ∷ [] };
+    ghost files = { λ t. large t.source ∷ [] };
 
-    ghost folder = { λ t. t.command.now.library };
+    ghost folder = { λ t. t.library };
 
-    ghost answers = { λ t. cougar_answers t.command.now };
+    ghost answers = { cougar_answers };
 
     fn own_files(&self, alloc: Global) -> Result<Vec<Wanted>, AllocError> {
         let mut wanted = Vec::new(alloc);
-        wanted.push(Wanted::large(self.command.source.copy(alloc)?))?;
+        wanted.push(Wanted::large(self.source.copy(alloc)?))?;
         Ok(wanted)
     }
 
     fn library_folder(&self) -> &FileName {
-        &self.command.library
+        &self.library
     }
 
     fn judge_with(
@@ -116,7 +111,7 @@ impl LibraryTool for Cougar<'_> {
         library: &Library,
         first: &[FileBytes],
     ) -> Result<Product, Refusal> {
-        extracted(alloc, self.command, library, bytes_at(first, 0))
+        extracted(alloc, self, library, bytes_at(first, 0))
     }
 
     ghost refuses = { λ t first more e h. (refl, no_library e h refl) };

@@ -9,6 +9,5 @@ mod laws;
 mod product;
 mod words;
 
-pub use cougar::Cougar;
 pub use laws::cougar_law;
 pub use words::{COUGAR_ENTRY, CougarCommand};

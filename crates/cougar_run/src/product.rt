@@ -8,7 +8,7 @@ use cell_checks::Library;
 use cell_pins::pin_table;
 use net_core::Netlist;
 use std::alloc::{AllocError, Global};
-use tool_drive::{Product, count_line};
+use tool_drive::{Product, count_line, file_name};
 use vlsi_base::{FileBytes, FileName, Port, is_supply};
 use vst_print::{WriteError, write_vst};
 
@@ -56,8 +56,7 @@ pub(crate) fn product(
 {
     let table = pin_table(alloc, library, true)?;
     let file = write_vst(alloc, netlist, &table)?;
-    let mut name = out.copy(alloc)?;
-    name.append(b".vst")?;
+    let name = file_name(alloc, out, b".vst")?;
     let text = report(alloc, netlist)?;
     Ok(Product {
         name,

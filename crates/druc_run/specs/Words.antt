@@ -3,7 +3,6 @@ use Rattle.std.specs.Prelude.{ℕ, List, [], ◌∷◌, Option, None, Some, code
 use Rattle.tool_words.specs.Table.{Entry, library}
 use Rattle.tool_words.specs.Arguments.{Given}
 use Rattle.tool_words.specs.Values.{source_of, text_of}
-use Rattle.tool_words.specs.Spelling.{spelled}
 use Rattle.druc_run.specs.declared.words.DrucCommand.{DrucCommand}
 
 abbrev pub druc : Entry
@@ -16,7 +15,3 @@ druc_with _ _ = None
 
 abbrev pub druc_from : Given → Option DrucCommand
 druc_from g = druc_with (source_of druc.endings g) (text_of library g)
-
--- the command that the words behind `druc` spell
-abbrev pub druc_of : List (List ℕ) → Option DrucCommand
-druc_of words = spelled druc druc_from words

@@ -15,18 +15,6 @@ use std::alloc::{AllocError, Global};
 use tool_drive::{Product, Refusal, Status, Verdict, Wanted, bytes_at, refused, unknown_cell};
 use vlsi_base::{FileBytes, FileName};
 
-/// `druc`, with what it is asked: it prints a line for each breach of the rules in the layout in SOURCE, and then `breaches` and how
-/// many there are.
-///
-/// All files are read first: SOURCE, CATAL, and the behaviour and the layout of each cell that this uses. Then it is refused, in
-/// this order: by `Library`, or a limit of CATAL or of a cell, at the first line or cell at fault; by `Source`, or a limit, of
-/// SOURCE; by `Source` of `UnknownCell`, at the first instance of a cell that the library hasn't; by `Limit` of `Size`, where there
-/// are 2^32 or more shapes; by `Broken`, where there is a breach. Memory goes by the files and the shapes of the layout.
-#[derive(Drop)]
-pub struct Druc<'a> {
-    pub command: &'a DrucCommand,
-}
-
 // How a refusal is told.
 fn druc_status(alloc: Global, command: &DrucCommand, error: DrucError) -> Status
     ensures { MemoryOr result (IsToldOf command.now error result) }
@@ -79,25 +67,32 @@ fn checked(
     answer(alloc, command, found.as_slice())
 }
 
-impl LibraryTool for Druc<'_> {
+/// `druc`, with what it is asked: it prints a line for each breach of the rules in the layout in SOURCE, and then `breaches` and how
+/// many there are.
+///
+/// All files are read first: SOURCE, CATAL, and the behaviour and the layout of each cell that this uses. Then it is refused, in
+/// this order: by `Library`, or a limit of CATAL or of a cell, at the first line or cell at fault; by `Source`, or a limit, of
+/// SOURCE; by `Source` of `UnknownCell`, at the first instance of a cell that the library hasn't; by `Limit` of `Size`, where there
+/// are 2^32 or more shapes; by `Broken`, where there is a breach. Memory goes by the files and the shapes of the layout.
+impl LibraryTool for DrucCommand {
     ghost use Rattle.std.specs.Prelude.{refl, [], ◌∷◌};
     ghost use Rattle.tool_drive.specs.Plan.{large};
     ghost use Rattle.druc_run.specs.Druc.{druc_answers, no_library};
 
-    ghost files = { λ t. large t.command.now.source ∷ [] };
+    ghost files = { λ t. large t.source ∷ [] };
 
-    ghost folder = { λ t. t.command.now.library };
+    ghost folder = { λ t. t.library };
 
-    ghost answers = { λ t. druc_answers t.command.now };
+    ghost answers = { druc_answers };
 
     fn own_files(&self, alloc: Global) -> Result<Vec<Wanted>, AllocError> {
         let mut wanted = Vec::new(alloc);
-        wanted.push(Wanted::large(self.command.source.copy(alloc)?))?;
+        wanted.push(Wanted::large(self.source.copy(alloc)?))?;
         Ok(wanted)
     }
 
     fn library_folder(&self) -> &FileName {
-        &self.command.library
+        &self.library
     }
 
     fn judge_with(
@@ -106,7 +101,7 @@ impl LibraryTool for Druc<'_> {
         library: &Library,
         first: &[FileBytes],
     ) -> Result<Product, Refusal> {
-        checked(alloc, self.command, library, bytes_at(first, 0))
+        checked(alloc, self, library, bytes_at(first, 0))
     }
 
     ghost refuses = { λ t first more e h. (refl, no_library e h refl) };

@@ -8,5 +8,4 @@ mod druc;
 mod report;
 mod words;
 
-pub use druc::Druc;
 pub use words::{DRUC_ENTRY, DrucCommand};

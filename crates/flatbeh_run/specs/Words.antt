@@ -3,7 +3,6 @@ use Rattle.std.specs.Prelude.{ℕ, List, [], ◌∷◌, Option, None, Some, code
 use Rattle.tool_words.specs.Table.{Entry, library, out}
 use Rattle.tool_words.specs.Arguments.{Given}
 use Rattle.tool_words.specs.Values.{source_of, text_of}
-use Rattle.tool_words.specs.Spelling.{spelled}
 use Rattle.flatbeh_run.specs.declared.words.FlatbehCommand.{FlatbehCommand}
 
 abbrev pub flatbeh : Entry
@@ -16,7 +15,3 @@ flatbeh_with _ _ _ = None
 
 abbrev pub flatbeh_from : Given → Option FlatbehCommand
 flatbeh_from g = flatbeh_with (source_of flatbeh.endings g) (text_of library g) (text_of out g)
-
--- the command that the words behind `flatbeh` spell
-abbrev pub flatbeh_of : List (List ℕ) → Option FlatbehCommand
-flatbeh_of words = spelled flatbeh flatbeh_from words

@@ -19,20 +19,6 @@ use tool_drive::{Product, Refusal, Status, Verdict, Wanted, bytes_at, named_faul
 use vlsi_base::{FaultKind, FileBytes, FileName, Limit, LimitKind, Name};
 use vst_io::read_vst;
 
-/// `flatbeh`, with what it is asked: it makes a machine of the netlist in SOURCE, whose registers have the names of its flip-flops,
-/// writes it to NAME.vbe, and prints `size` and how large it is.
-///
-/// All files are read first: SOURCE, CATAL, and the behaviour and the layout of each cell that this uses. Then it is refused, in
-/// this order: by `Library`, or a limit of CATAL or of a cell, at the first line or cell at fault; by `Source`, or a limit, of
-/// SOURCE; by `NoBehaviour`, at the first instance whose cell is neither a gate nor a plain flip-flop; by `Source` of `Twice`, at the
-/// first flip-flop with the text of a port; by `Limit` of `Bits`, where the netlist's machine has 2^32 bits or more, or as
-/// many names and ports together, which a text has to number; by `Source` of `ClockUse`, where the clock is a bit of a vector, which a
-/// data-flow text can't have. Memory goes by the files, the netlist and its machine.
-#[derive(Drop)]
-pub struct Flatbeh<'a> {
-    pub command: &'a FlatbehCommand,
-}
-
 // The status of 2^32 or more, so many.
 fn too_many(reached: u64) -> Status
     ensures { result ≡ Status.Limit (record { which = LimitKind.Bits; reached = reached }) }
@@ -117,25 +103,34 @@ fn flattened(
     Ok(written)
 }
 
-impl LibraryTool for Flatbeh<'_> {
+/// `flatbeh`, with what it is asked: it makes a machine of the netlist in SOURCE, whose registers have the names of its flip-flops,
+/// writes it to NAME.vbe, and prints `size` and how large it is.
+///
+/// All files are read first: SOURCE, CATAL, and the behaviour and the layout of each cell that this uses. Then it is refused, in
+/// this order: by `Library`, or a limit of CATAL or of a cell, at the first line or cell at fault; by `Source`, or a limit, of
+/// SOURCE; by `NoBehaviour`, at the first instance whose cell is neither a gate nor a plain flip-flop; by `Source` of `Twice`, at the
+/// first flip-flop with the text of a port; by `Limit` of `Bits`, where the netlist's machine has 2^32 bits or more, or as
+/// many names and ports together, which a text has to number; by `Source` of `ClockUse`, where the clock is a bit of a vector, which a
+/// data-flow text can't have. Memory goes by the files, the netlist and its machine.
+impl LibraryTool for FlatbehCommand {
     ghost use Rattle.std.specs.Prelude.{refl, [], ◌∷◌};
     ghost use Rattle.tool_drive.specs.Plan.{large};
     ghost use Rattle.flatbeh_run.specs.Flatbeh.{flatbeh_answers, no_library};
 
-    ghost files = { λ t. large t.command.now.source ∷ [] };
+    ghost files = { λ t. large t.source ∷ [] };
 
-    ghost folder = { λ t. t.command.now.library };
+    ghost folder = { λ t. t.library };
 
-    ghost answers = { λ t. flatbeh_answers t.command.now };
+    ghost answers = { flatbeh_answers };
 
     fn own_files(&self, alloc: Global) -> Result<Vec<Wanted>, AllocError> {
         let mut wanted = Vec::new(alloc);
-        wanted.push(Wanted::large(self.command.source.copy(alloc)?))?;
+        wanted.push(Wanted::large(self.source.copy(alloc)?))?;
         Ok(wanted)
     }
 
     fn library_folder(&self) -> &FileName {
-        &self.command.library
+        &self.library
     }
 
     fn judge_with(
@@ -144,7 +139,7 @@ impl LibraryTool for Flatbeh<'_> {
         library: &Library,
         first: &[FileBytes],
     ) -> Result<Product, Refusal> {
-        flattened(alloc, self.command, library, bytes_at(first, 0))
+        flattened(alloc, self, library, bytes_at(first, 0))
     }
 
     ghost refuses = { λ t first more e h. (refl, no_library e h refl) };

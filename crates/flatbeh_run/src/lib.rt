@@ -9,6 +9,5 @@ mod laws;
 mod product;
 mod words;
 
-pub use flatbeh::Flatbeh;
 pub use laws::flatbeh_law;
 pub use words::{FLATBEH_ENTRY, FlatbehCommand};

@@ -5,7 +5,7 @@ ghost use Rattle.flatbeh_run.specs.Flatbeh.{report as report_of, IsWrittenAs};
 
 use machine_core::{Machine, machine_size};
 use std::alloc::{AllocError, Global};
-use tool_drive::{Product, count_line};
+use tool_drive::{Product, count_text, file_name};
 use vbe_print::write_vbe;
 use vlsi_base::{FileBytes, FileName};
 
@@ -13,9 +13,7 @@ use vlsi_base::{FileBytes, FileName};
 fn report(alloc: Global, machine: &Machine) -> Result<FileBytes, AllocError>
     ensures { IfOk result (λ text. text ≡ report_of machine.now) }
 {
-    let mut text = FileBytes::new(Vec::new(alloc));
-    count_line(alloc, &mut text, b"size", u128::from(machine_size(machine)))?;
-    Ok(text)
+    count_text(alloc, b"size", u128::from(machine_size(machine)))
 }
 
 /// The machine's file, NAME.vbe, and what is printed.
@@ -29,8 +27,7 @@ pub(crate) fn product(
     ensures { IfOk result (λ p. IsWrittenAs out.now machine.now p) }
 {
     let file = write_vbe(alloc, machine)?;
-    let mut name = out.copy(alloc)?;
-    name.append(b".vbe")?;
+    let name = file_name(alloc, out, b".vbe")?;
     let text = report(alloc, machine)?;
     Ok(Product {
         name,

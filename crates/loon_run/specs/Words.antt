@@ -3,7 +3,6 @@ use Rattle.std.specs.Prelude.{ℕ, List, [], ◌∷◌, Option, None, Some, code
 use Rattle.tool_words.specs.Table.{Entry, library, out, fanout}
 use Rattle.tool_words.specs.Arguments.{Given}
 use Rattle.tool_words.specs.Values.{source_of, text_of, number_of}
-use Rattle.tool_words.specs.Spelling.{spelled}
 use Rattle.loon_run.specs.declared.words.LoonCommand.{LoonCommand}
 
 abbrev pub loon : Entry
@@ -16,7 +15,3 @@ loon_with _ _ _ _ = None
 
 abbrev pub loon_from : Given → Option LoonCommand
 loon_from g = loon_with (source_of loon.endings g) (text_of library g) (text_of out g) (number_of fanout g)
-
--- the command that the words behind `loon` spell
-abbrev pub loon_of : List (List ℕ) → Option LoonCommand
-loon_of words = spelled loon loon_from words

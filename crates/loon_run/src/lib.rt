@@ -10,5 +10,4 @@ mod product;
 mod words;
 
 pub use laws::loon_law;
-pub use loon::Loon;
 pub use words::{LOON_ENTRY, LoonCommand};

@@ -23,20 +23,6 @@ use tool_drive::{Kind, Product, Refusal, Status, Wanted, bytes_at, refused};
 use vlsi_base::{FileBytes, FileName, Limit, LimitKind};
 use vst_io::read_vst;
 
-/// `loon`, with what it is asked: it puts buffers into the netlist in SOURCE until no net has more sinks than asked for, exchanges
-/// cells for drives of them until no exchange of one instance's cell makes the longest path shorter, writes the netlist to NAME.vst,
-/// and prints `cells` and the number of its instances, and `delay` and how many femtoseconds the longest path takes.
-///
-/// All files are read first: SOURCE, CATAL, and the behaviour and the layout of each cell that this uses. Then it is refused, in this
-/// order: by `Library`, or a limit of CATAL or of a cell, at the first line or cell at fault; by `Source`, or a limit, of SOURCE, in
-/// which cells that aren't usable are unknown; by `Limit` of `Bits`, where the netlist has an instance and 2^27 or more
-/// ports and pins, with their number; by `NoCover` of an inverter, where a net has too many sinks and the library has neither a buffer nor an
-/// inverter. Memory goes by the files, the netlist, its arcs, and each pair of cells of which one can stand for the other.
-#[derive(Drop)]
-pub struct Loon<'a> {
-    pub command: &'a LoonCommand,
-}
-
 // Whether gates can be put in, or the status that tells that there are too many ports and pins; without instances there are none to put
 // in. Takes no memory.
 fn check_room(netlist: &Netlist) -> Result<(), Status>
@@ -112,25 +98,34 @@ fn limited(
     Ok(written)
 }
 
-impl LibraryTool for Loon<'_> {
+/// `loon`, with what it is asked: it puts buffers into the netlist in SOURCE until no net has more sinks than asked for, exchanges
+/// cells for drives of them until no exchange of one instance's cell makes the longest path shorter, writes the netlist to NAME.vst,
+/// and prints `cells` and the number of its instances, and `delay` and how many femtoseconds the longest path takes.
+///
+/// All files are read first: SOURCE, CATAL, and the behaviour and the layout of each cell that this uses. Then it is refused, in this
+/// order: by `Library`, or a limit of CATAL or of a cell, at the first line or cell at fault; by `Source`, or a limit, of SOURCE, in
+/// which cells that aren't usable are unknown; by `Limit` of `Bits`, where the netlist has an instance and 2^27 or more
+/// ports and pins, with their number; by `NoCover` of an inverter, where a net has too many sinks and the library has neither a buffer nor an
+/// inverter. Memory goes by the files, the netlist, its arcs, and each pair of cells of which one can stand for the other.
+impl LibraryTool for LoonCommand {
     ghost use Rattle.std.specs.Prelude.{refl, [], ◌∷◌};
     ghost use Rattle.tool_drive.specs.Plan.{large};
     ghost use Rattle.loon_run.specs.Loon.{loon_answers, no_library};
 
-    ghost files = { λ t. large t.command.now.source ∷ [] };
+    ghost files = { λ t. large t.source ∷ [] };
 
-    ghost folder = { λ t. t.command.now.library };
+    ghost folder = { λ t. t.library };
 
-    ghost answers = { λ t. loon_answers t.command.now };
+    ghost answers = { loon_answers };
 
     fn own_files(&self, alloc: Global) -> Result<Vec<Wanted>, AllocError> {
         let mut wanted = Vec::new(alloc);
-        wanted.push(Wanted::large(self.command.source.copy(alloc)?))?;
+        wanted.push(Wanted::large(self.source.copy(alloc)?))?;
         Ok(wanted)
     }
 
     fn library_folder(&self) -> &FileName {
-        &self.command.library
+        &self.library
     }
 
     fn judge_with(
@@ -139,7 +134,7 @@ impl LibraryTool for Loon<'_> {
         library: &Library,
         first: &[FileBytes],
     ) -> Result<Product, Refusal> {
-        limited(alloc, self.command, library, bytes_at(first, 0))
+        limited(alloc, self, library, bytes_at(first, 0))
     }
 
     ghost refuses = { λ t first more e h. (refl, no_library e h refl) };

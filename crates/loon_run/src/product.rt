@@ -6,7 +6,7 @@ ghost use Rattle.loon_run.specs.Loon.{report as report_of, IsWrittenAs};
 use loon_drive::Driven;
 use net_core::PinTable;
 use std::alloc::{AllocError, Global};
-use tool_drive::{Product, count_line};
+use tool_drive::{Product, count_line, file_name};
 use vlsi_base::{FileBytes, FileName};
 use vst_print::{WriteError, write_vst};
 
@@ -40,8 +40,7 @@ pub(crate) fn product(
         Err(WriteError::Memory) => return Err(AllocError),
         Err(WriteError::BadMap) => unreachable!(),
     };
-    let mut name = out.copy(alloc)?;
-    name.append(b".vst")?;
+    let name = file_name(alloc, out, b".vst")?;
     let text = report(alloc, driven)?;
     Ok(Product {
         name,

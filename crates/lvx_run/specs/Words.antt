@@ -3,7 +3,6 @@ use Rattle.std.specs.Prelude.{ℕ, true, List, [], ◌∷◌, Option, None, Some
 use Rattle.tool_words.specs.Table.{Entry, Setting, Ending, library}
 use Rattle.tool_words.specs.Arguments.{Given}
 use Rattle.tool_words.specs.Values.{source_of, text_of}
-use Rattle.tool_words.specs.Spelling.{spelled}
 use Rattle.lvx_run.specs.declared.words.LvxCommand.{LvxCommand}
 
 -- what it is compared with
@@ -20,7 +19,3 @@ lvx_with _ _ _ = None
 
 abbrev pub lvx_from : Given → Option LvxCommand
 lvx_from g = lvx_with (source_of lvx.endings g) (text_of other g) (text_of library g)
-
--- the command that the words behind `lvx` spell
-abbrev pub lvx_of : List (List ℕ) → Option LvxCommand
-lvx_of words = spelled lvx lvx_from words

@@ -7,5 +7,4 @@
 mod lvx;
 mod words;
 
-pub use lvx::Lvx;
 pub use words::{LVX_ENTRY, LvxCommand};

@@ -18,16 +18,6 @@ use tool_drive::{Product, Refusal, Status, Verdict, Wanted, bytes_at, refused};
 use vlsi_base::{FileBytes, FileName};
 use vst_io::read_vst;
 
-/// `lvx`, with what it is asked: it compares the netlist in SOURCE with the one in the second file, by name, and prints `same`.
-///
-/// All files are read first: SOURCE, the second file, CATAL, and the behaviour and the layout of each cell that this uses. Then it
-/// is refused, in this order: by `Library`, or a limit of CATAL or of a cell; by `Source`, or a limit, of SOURCE, then of the second
-/// file; by `Different`, with the least name that differs, ports before instances. Memory goes by the files and the netlists.
-#[derive(Drop)]
-pub struct Lvx<'a> {
-    pub command: &'a LvxCommand,
-}
-
 // The netlists in the bytes of SOURCE and of the second file, or the status of the first that is refused.
 fn read_both(
     alloc: Global,
@@ -84,26 +74,31 @@ fn compared(
     }
 }
 
-impl LibraryTool for Lvx<'_> {
+/// `lvx`, with what it is asked: it compares the netlist in SOURCE with the one in the second file, by name, and prints `same`.
+///
+/// All files are read first: SOURCE, the second file, CATAL, and the behaviour and the layout of each cell that this uses. Then it
+/// is refused, in this order: by `Library`, or a limit of CATAL or of a cell; by `Source`, or a limit, of SOURCE, then of the second
+/// file; by `Different`, with the least name that differs, ports before instances. Memory goes by the files and the netlists.
+impl LibraryTool for LvxCommand {
     ghost use Rattle.std.specs.Prelude.{refl, [], ◌∷◌};
     ghost use Rattle.tool_drive.specs.Plan.{large};
     ghost use Rattle.lvx_run.specs.Lvx.{lvx_answers, no_library};
 
-    ghost files = { λ t. large t.command.now.source ∷ large t.command.now.other ∷ [] };
+    ghost files = { λ t. large t.source ∷ large t.other ∷ [] };
 
-    ghost folder = { λ t. t.command.now.library };
+    ghost folder = { λ t. t.library };
 
-    ghost answers = { λ t. lvx_answers t.command.now };
+    ghost answers = { lvx_answers };
 
     fn own_files(&self, alloc: Global) -> Result<Vec<Wanted>, AllocError> {
         let mut wanted = Vec::new(alloc);
-        wanted.push(Wanted::large(self.command.source.copy(alloc)?))?;
-        wanted.push(Wanted::large(self.command.other.copy(alloc)?))?;
+        wanted.push(Wanted::large(self.source.copy(alloc)?))?;
+        wanted.push(Wanted::large(self.other.copy(alloc)?))?;
         Ok(wanted)
     }
 
     fn library_folder(&self) -> &FileName {
-        &self.command.library
+        &self.library
     }
 
     fn judge_with(
@@ -112,7 +107,7 @@ impl LibraryTool for Lvx<'_> {
         library: &Library,
         first: &[FileBytes],
     ) -> Result<Product, Refusal> {
-        compared(alloc, self.command, library, first)
+        compared(alloc, self, library, first)
     }
 
     ghost refuses = { λ t first more e h. (refl, no_library e h refl) };

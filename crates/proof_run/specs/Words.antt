@@ -3,7 +3,6 @@ use Rattle.std.specs.Prelude.{ℕ, true, List, [], ◌∷◌, Option, None, Some
 use Rattle.tool_words.specs.Table.{Entry, Setting, Ending, nodes}
 use Rattle.tool_words.specs.Arguments.{Given}
 use Rattle.tool_words.specs.Values.{source_of, text_of, number_of}
-use Rattle.tool_words.specs.Spelling.{spelled}
 use Rattle.proof_run.specs.declared.words.ProofCommand.{ProofCommand}
 
 -- what it is compared with
@@ -20,7 +19,3 @@ proof_with _ _ _ = None
 
 abbrev pub proof_from : Given → Option ProofCommand
 proof_from g = proof_with (source_of proof.endings g) (text_of other g) (number_of nodes g)
-
--- the command that the words behind `proof` spell
-abbrev pub proof_of : List (List ℕ) → Option ProofCommand
-proof_of words = spelled proof proof_from words

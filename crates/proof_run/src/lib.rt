@@ -7,5 +7,4 @@
 mod proof;
 mod words;
 
-pub use proof::Proof;
 pub use words::{PROOF_ENTRY, ProofCommand};

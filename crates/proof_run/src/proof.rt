@@ -15,16 +15,6 @@ use vbe_io::read_vbe;
 use vbe_laws::source_has_few_names;
 use vlsi_base::{FileBytes, FileName};
 
-/// `proof`, with what it is asked: it compares the machines of SOURCE and of a second source, and prints `equal`.
-///
-/// It is refused, in this order: by `Source`, or a limit of the text, of SOURCE and then of the second source; by `Names`, where the
-/// machines differ by a name; by `Budget`, at the first roots whose diagram has more nodes than asked for; by `Unequal`, at the first
-/// roots that are different functions. Memory goes by the two files, the two machines and one diagram.
-#[derive(Drop)]
-pub struct Proof<'a> {
-    pub command: &'a ProofCommand,
-}
-
 // The machine of a source, or the status that tells why there is none.
 fn machine_in(alloc: Global, file: &FileName, source: &[u8]) -> Result<Machine, Status>
     ensures machine { IfOk result (λ m. IsVbe source.now m) }
@@ -118,17 +108,22 @@ fn compared(
     Ok(said)
 }
 
-impl Tool for Proof<'_> {
+/// `proof`, with what it is asked: it compares the machines of SOURCE and of a second source, and prints `equal`.
+///
+/// It is refused, in this order: by `Source`, or a limit of the text, of SOURCE and then of the second source; by `Names`, where the
+/// machines differ by a name; by `Budget`, at the first roots whose diagram has more nodes than asked for; by `Unequal`, at the first
+/// roots that are different functions. Memory goes by the two files, the two machines and one diagram.
+impl Tool for ProofCommand {
     ghost use Rattle.proof_run.specs.Proof.{proof_plan, proof_answers};
 
-    ghost plan = { λ t. proof_plan t.command.now };
+    ghost plan = { proof_plan };
 
-    ghost answers = { λ t. proof_answers t.command.now };
+    ghost answers = { proof_answers };
 
     fn first(&self, alloc: Global) -> Result<Vec<Wanted>, AllocError> {
         let mut wanted = Vec::new(alloc);
-        wanted.push(Wanted::limited(self.command.source.copy(alloc)?))?;
-        wanted.push(Wanted::limited(self.command.other.copy(alloc)?))?;
+        wanted.push(Wanted::limited(self.source.copy(alloc)?))?;
+        wanted.push(Wanted::limited(self.other.copy(alloc)?))?;
         Ok(wanted)
     }
 
@@ -142,6 +137,6 @@ impl Tool for Proof<'_> {
         first: &[FileBytes],
         _more: &[FileBytes],
     ) -> Result<Product, Refusal> {
-        compared(alloc, self.command, bytes_at(first, 0), bytes_at(first, 1))
+        compared(alloc, self, bytes_at(first, 0), bytes_at(first, 1))
     }
 }

@@ -4,7 +4,6 @@ use Rattle.tool_words.specs.Table.{Entry, out, encoding, seed}
 use Rattle.tool_words.specs.Arguments.{Given}
 use Rattle.tool_words.specs.declared.values.Encoding.{Encoding}
 use Rattle.tool_words.specs.Values.{source_of, text_of, number_of, encoding_of}
-use Rattle.tool_words.specs.Spelling.{spelled}
 use Rattle.syf_run.specs.declared.words.SyfCommand.{SyfCommand}
 
 abbrev pub syf : Entry
@@ -17,7 +16,3 @@ syf_with _ _ _ _ = None
 
 abbrev pub syf_from : Given → Option SyfCommand
 syf_from g = syf_with (source_of syf.endings g) (text_of out g) (encoding_of g) (number_of seed g)
-
--- the command that the words behind `syf` spell
-abbrev pub syf_of : List (List ℕ) → Option SyfCommand
-syf_of words = spelled syf syf_from words

@@ -15,5 +15,4 @@ pub use each_machine::each_text_is_encoded;
 pub use encoded::{Encoded, encoded_machine, style_of};
 pub use laws::encoded_law;
 pub use lines::code_lines;
-pub use syf::Syf;
 pub use words::{SYF_ENTRY, SyfCommand};

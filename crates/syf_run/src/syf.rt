@@ -13,16 +13,9 @@ use fsm_core::StateMachine;
 use fsm_io::read_fsm;
 use fsm_laws::{machine_has_few_signals, machine_of_fsm_can_be_written};
 use std::alloc::{AllocError, Global};
-use tool_drive::{Product, Refusal, Tool, Wanted, bytes_at, refused};
+use tool_drive::{Product, Refusal, Tool, Wanted, bytes_at, file_name, refused};
 use vbe_print::write_vbe;
 use vlsi_base::FileBytes;
-
-/// `syf`, with what it is asked: it gives codes to the states of the state machine of SOURCE, writes its machine as a data-flow text
-/// to NAME.vbe, and prints each state with its code. It is refused by `Source`, or a limit of the text, at the first fault of SOURCE.
-#[derive(Drop)]
-pub struct Syf<'a> {
-    pub command: &'a SyfCommand,
-}
 
 // The text of the machine, and the lines of the codes.
 fn product(
@@ -41,8 +34,7 @@ fn product(
     let mut text = FileBytes::new(Vec::new(alloc));
     let names = states.states().as_slice();
     code_lines(alloc, &mut text, names, made.codes.as_slice())?;
-    let mut name = command.out.copy(alloc)?;
-    name.append(b".vbe")?;
+    let name = file_name(alloc, &command.out, b".vbe")?;
     Ok(Product {
         name,
         file: Some(file),
@@ -66,16 +58,18 @@ fn encodes(alloc: Global, command: &SyfCommand, source: &[u8]) -> Result<Product
     Ok(written)
 }
 
-impl Tool for Syf<'_> {
+/// `syf`, with what it is asked: it gives codes to the states of the state machine of SOURCE, writes its machine as a data-flow text
+/// to NAME.vbe, and prints each state with its code. It is refused by `Source`, or a limit of the text, at the first fault of SOURCE.
+impl Tool for SyfCommand {
     ghost use Rattle.syf_run.specs.Syf.{syf_plan, syf_answers};
 
-    ghost plan = { λ t. syf_plan t.command.now };
+    ghost plan = { syf_plan };
 
-    ghost answers = { λ t. syf_answers t.command.now };
+    ghost answers = { syf_answers };
 
     fn first(&self, alloc: Global) -> Result<Vec<Wanted>, AllocError> {
         let mut wanted = Vec::new(alloc);
-        wanted.push(Wanted::limited(self.command.source.copy(alloc)?))?;
+        wanted.push(Wanted::limited(self.source.copy(alloc)?))?;
         Ok(wanted)
     }
 
@@ -89,6 +83,6 @@ impl Tool for Syf<'_> {
         first: &[FileBytes],
         _: &[FileBytes],
     ) -> Result<Product, Refusal> {
-        encodes(alloc, self.command, bytes_at(first, 0))
+        encodes(alloc, self, bytes_at(first, 0))
     }
 }

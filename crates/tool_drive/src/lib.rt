@@ -17,7 +17,7 @@ mod tool;
 pub use line::tell;
 pub use read::{Stop, read_list};
 pub use refusals::{named_fault, refused, unknown_cell, whole_fault};
-pub use report::{count_line, push_number};
+pub use report::{count_line, count_text, file_name, push_number};
 pub use run::drive;
 pub use size::{MOST_SIZE, check_size};
 pub use status::{FileCause, LibraryFault, Status, Verdict};

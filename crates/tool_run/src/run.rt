@@ -6,18 +6,9 @@ ghost use Rattle.tool_drive.specs.Lines.{line_of};
 ghost use Rattle.tool_run.specs.Answers.{IsAnswerTo, word_of};
 
 use crate::words::Command;
-use asimut_run::{Asimut, AsimutNetlist, AsimutTask};
-use boog_run::Boog;
-use boom_run::Boom;
+use asimut_run::AsimutTask;
 use cell_lib::WithLibrary;
-use cougar_run::Cougar;
-use druc_run::Druc;
-use flatbeh_run::Flatbeh;
-use loon_run::Loon;
-use lvx_run::Lvx;
-use proof_run::Proof;
 use std::alloc::Global;
-use syf_run::Syf;
 use tool_drive::{Status, drive};
 use vlsi_shelf::{Shelf, Sink};
 
@@ -33,11 +24,8 @@ fn run_asimut<S: Shelf, T: Sink>(
     ensures never_usage { result ≡ Status.Usage → ⊥ }
 {
     match task {
-        AsimutTask::Source(command) => drive(alloc, b"asimut", &Asimut { command }, shelf, out),
-        AsimutTask::Netlist(command) => {
-            let tool = WithLibrary(AsimutNetlist { command });
-            drive(alloc, b"asimut", &tool, shelf, out)
-        }
+        AsimutTask::Source(command) => drive(alloc, b"asimut", command, shelf, out),
+        AsimutTask::Netlist(command) => drive(alloc, b"asimut", &WithLibrary(command), shelf, out),
     }
 }
 
@@ -58,37 +46,15 @@ pub fn run_tool<S: Shelf, T: Sink>(
     ensures never_usage { result ≡ Status.Usage → ⊥ }
 {
     match command {
-        Command::Syf(command) => drive(alloc, b"syf", &Syf { command }, shelf, out),
-        Command::Boom(command) => drive(alloc, b"boom", &Boom { command }, shelf, out),
-        Command::Boog(command) => {
-            drive(alloc, b"boog", &WithLibrary(Boog { command }), shelf, out)
-        }
-        Command::Loon(command) => {
-            drive(alloc, b"loon", &WithLibrary(Loon { command }), shelf, out)
-        }
+        Command::Syf(command) => drive(alloc, b"syf", command, shelf, out),
+        Command::Boom(command) => drive(alloc, b"boom", command, shelf, out),
+        Command::Boog(command) => drive(alloc, b"boog", &WithLibrary(command), shelf, out),
+        Command::Loon(command) => drive(alloc, b"loon", &WithLibrary(command), shelf, out),
         Command::Asimut(task) => run_asimut(alloc, task, shelf, out),
-        Command::Cougar(command) => {
-            drive(
-                alloc,
-                b"cougar",
-                &WithLibrary(Cougar { command }),
-                shelf,
-                out,
-            )
-        }
-        Command::Lvx(command) => { drive(alloc, b"lvx", &WithLibrary(Lvx { command }), shelf, out) }
-        Command::Druc(command) => {
-            drive(alloc, b"druc", &WithLibrary(Druc { command }), shelf, out)
-        }
-        Command::Proof(command) => drive(alloc, b"proof", &Proof { command }, shelf, out),
-        Command::Flatbeh(command) => {
-            drive(
-                alloc,
-                b"flatbeh",
-                &WithLibrary(Flatbeh { command }),
-                shelf,
-                out,
-            )
-        }
+        Command::Cougar(command) => drive(alloc, b"cougar", &WithLibrary(command), shelf, out),
+        Command::Lvx(command) => drive(alloc, b"lvx", &WithLibrary(command), shelf, out),
+        Command::Druc(command) => drive(alloc, b"druc", &WithLibrary(command), shelf, out),
+        Command::Proof(command) => drive(alloc, b"proof", command, shelf, out),
+        Command::Flatbeh(command) => drive(alloc, b"flatbeh", &WithLibrary(command), shelf, out),
     }
 }

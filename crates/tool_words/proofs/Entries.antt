@@ -4,15 +4,16 @@ use Rattle.std.specs.List.{find}
 use Rattle.std.specs.Cmp.Lexicographic.{bytes_decides}
 use Rattle.tool_words.specs.Words.{is_word}
 use Rattle.tool_words.specs.Table.{Entry}
-use Rattle.tool_words.specs.Spelling.{Tool, tool, tool_named, command_by, command_in}
+use Rattle.tool_words.specs.Arguments.{Given}
+use Rattle.tool_words.specs.Spelling.{Tool, spelled, tool, tool_named, command_by, command_in}
 
 -- the commands of a tool are called by its word
 abbrev pub Names : {A : Type 0} → (A → List ℕ) → Tool A → Type 0
 Names {A} word_of t = (words : List (List ℕ)) (k : A) → t.command words ≡ Some k → t.entry.word ≡ word_of k
 
-pub named : {A B : Type 0} (word_of : B → List ℕ) (e : Entry) (make : A → B) (of : List (List ℕ) → Option A) → ((a : A) → e.word ≡ word_of (make a))
-    → Names word_of (tool e make of)
-named {A} {B} word_of e make of each words k h = by (of words) h where
+pub named : {A B : Type 0} (word_of : B → List ℕ) (e : Entry) (make : A → B) (asked : Given → Option A) → ((a : A) → e.word ≡ word_of (make a))
+    → Names word_of (tool e make asked)
+named {A} {B} word_of e make asked each words k h = by (spelled e asked words) h where
   by : (x : Option A) → option_map make x ≡ Some k → e.word ≡ word_of k
   by None h = absurd (cc h)
   by (Some a) h = let same : make a ≡ k = cc h in subst (λ (other : B). e.word ≡ word_of other) same (each a)

@@ -20,9 +20,9 @@ pub record Tool (A : Type 0) : Type 0 where
   pub entry : Entry
   pub command : List (List ℕ) → Option A
 
--- a tool whose commands are among those of several tools
-abbrev pub tool : {A B : Type 0} → Entry → (A → B) → (List (List ℕ) → Option A) → Tool B
-tool e make of = record { entry = e; command = λ words. option_map make (of words) }
+-- a tool whose commands are among those of several tools, by what is made of the values
+abbrev pub tool : {A B : Type 0} → Entry → (A → B) → (Given → Option A) → Tool B
+tool e make asked = record { entry = e; command = λ words. option_map make (spelled e asked words) }
 
 -- the tool with this word
 abbrev pub tool_named : {A : Type 0} → List (Tool A) → List ℕ → Option (Tool A)

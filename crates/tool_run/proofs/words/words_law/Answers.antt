@@ -1,15 +1,15 @@
 use Rattle.std.proofs.Common.{◌≡◌, refl}
 use Rattle.tool_words.proofs.Entries.{named, AllName, tool_first}
-use Rattle.syf_run.specs.Words.{syf, syf_of}
-use Rattle.boom_run.specs.Words.{boom, boom_of}
-use Rattle.boog_run.specs.Words.{boog, boog_of}
-use Rattle.loon_run.specs.Words.{loon, loon_of}
-use Rattle.asimut_run.specs.Words.{asimut, asimut_of}
-use Rattle.cougar_run.specs.Words.{cougar, cougar_of}
-use Rattle.lvx_run.specs.Words.{lvx, lvx_of}
-use Rattle.druc_run.specs.Words.{druc, druc_of}
-use Rattle.proof_run.specs.Words.{proof, proof_of}
-use Rattle.flatbeh_run.specs.Words.{flatbeh, flatbeh_of}
+use Rattle.syf_run.specs.Words.{syf, syf_from}
+use Rattle.boom_run.specs.Words.{boom, boom_from}
+use Rattle.boog_run.specs.Words.{boog, boog_from}
+use Rattle.loon_run.specs.Words.{loon, loon_from}
+use Rattle.asimut_run.specs.Words.{asimut, asimut_from}
+use Rattle.cougar_run.specs.Words.{cougar, cougar_from}
+use Rattle.lvx_run.specs.Words.{lvx, lvx_from}
+use Rattle.druc_run.specs.Words.{druc, druc_from}
+use Rattle.proof_run.specs.Words.{proof, proof_from}
+use Rattle.flatbeh_run.specs.Words.{flatbeh, flatbeh_from}
 use Rattle.asimut_run.specs.declared.words.AsimutTask.{AsimutTask}
 use Rattle.asimut_run.specs.declared.words.AsimutTask.TheVariants as task
 use Rattle.tool_run.specs.declared.words.Command.TheVariants as command
@@ -24,7 +24,7 @@ asimut_named (task.Netlist c) = refl
 -- the commands of each tool are called by its word
 all_name : AllName word_of tools
 all_name =
-    (named word_of syf command.Syf syf_of (λ c. refl), (named word_of boom command.Boom boom_of (λ c. refl), (named word_of boog command.Boog boog_of (λ c. refl), (named word_of loon command.Loon loon_of (λ c. refl), (named word_of asimut command.Asimut asimut_of asimut_named, (named word_of cougar command.Cougar cougar_of (λ c. refl), (named word_of lvx command.Lvx lvx_of (λ c. refl), (named word_of druc command.Druc druc_of (λ c. refl), (named word_of proof command.Proof proof_of (λ c. refl), (named word_of flatbeh command.Flatbeh flatbeh_of (λ c. refl), tt))))))))))
+    (named word_of syf command.Syf syf_from (λ c. refl), (named word_of boom command.Boom boom_from (λ c. refl), (named word_of boog command.Boog boog_from (λ c. refl), (named word_of loon command.Loon loon_from (λ c. refl), (named word_of asimut command.Asimut asimut_from asimut_named, (named word_of cougar command.Cougar cougar_from (λ c. refl), (named word_of lvx command.Lvx lvx_from (λ c. refl), (named word_of druc command.Druc druc_from (λ c. refl), (named word_of proof command.Proof proof_from (λ c. refl), (named word_of flatbeh command.Flatbeh flatbeh_from (λ c. refl), tt))))))))))
 
 pub returns : goal.returns
 returns c = tool_first word_of tools all_name
