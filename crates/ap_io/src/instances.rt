@@ -1,5 +1,5 @@
 // The names of instances.
-ghost use Rattle.std.specs.Prelude.{◌≡◌, ◌||◌, OnOk, bytes_eq, ℕ, List, false};
+ghost use Rattle.std.specs.Prelude.{◌≡◌, ◌||◌, OnOk, IfOk, not, bytes_eq, ℕ, List, false};
 ghost use Rattle.ap_io.specs.Instances.{is_known};
 
 use std::alloc::{AllocError, Global};

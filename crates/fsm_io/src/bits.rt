@@ -1,11 +1,11 @@
 // The statements bit by bit, over the bits of the ports.
-ghost use Rattle.std.specs.Prelude.{◌≡◌, map, IfOk};
+ghost use Rattle.std.specs.Prelude.{◌≡◌, ◌∷◌, map, IfOk};
 ghost use Rattle.bool_expr.specs.View.{view};
 ghost use Rattle.vlsi_base.specs.Tree.{view as tree};
 ghost use Rattle.source_checks.specs.Formula.{numbered, formulas};
 ghost use Rattle.source_checks.specs.Drivers.{target_names};
 ghost use Rattle.source_bits.specs.Formulas.{first_of};
-ghost use Rattle.fsm_machine.specs.Statements.{assign};
+ghost use Rattle.fsm_machine.specs.Statements.{assign, output};
 ghost use Rattle.fsm_code.specs.View as code;
 ghost use Rattle.fsm_text.specs.Written.{statement_view, body_view, parts_view, branches_view};
 ghost use Rattle.fsm_io.specs.Elaboration.{condition_of, assign_bits, assignment_bits, body_bits, statement_bits, parts_bits, branches_bits, state_number, next_number};

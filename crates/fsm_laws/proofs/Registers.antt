@@ -1,5 +1,5 @@
 -- The names of registers that hold a code: bits of one text, which is an identifier and that of no port.
-use Rattle.std.proofs.Common.{◌≡◌, ℕ, zero, suc, ◌+◌, ◌<◌, ◌≤◌, ◌^◌, Bool, true, false, not, cond, List, [], ◌∷◌, map, length, codes, None, Some, bytes_eq, slice_index, inl, inr, refl, sym, ap, subst, ◌∙◌, arith}
+use Rattle.std.proofs.Common.{◌≡◌, ℕ, zero, suc, ◌+◌, ◌<◌, ◌≤◌, ◌^◌, Bool, true, false, not, cond, List, [], ◌∷◌, ◌++◌, map, length, codes, Option, None, Some, bytes_eq, slice_index, inl, inr, refl, sym, ap, subst, ◌∙◌, arith}
 use Rattle.std.specs.Prelude.{slice_get}
 use Rattle.std.specs.List.{All, list_all}
 use Rattle.std.specs.Char.{is_ascii_digit}
@@ -13,8 +13,8 @@ use Rattle.vhdl_token.specs.declared.keyword.Keyword.{Keyword}
 use Rattle.vhdl_token.specs.Keyword.{keyword_text, keyword_among, keyword_of, keywords}
 use Rattle.spell_theory.specs.Words.{is_small_letter, is_in_small_word}
 use Rattle.spell_theory.proofs.Letters.{both, by_bytes, small_digit, all_implied, decimal_is}
-use Rattle.text_names.specs.Words.{IsIdentifier, GoesOn}
-use Rattle.text_names.specs.Free.{candidate, IsFirstFree}
+use Rattle.text_names.specs.Words.{is_word, IsIdentifier, GoesOn}
+use Rattle.text_names.specs.Free.{is_free, candidate, IsFirstFree}
 use Rattle.text_names.proofs.Enough.{last_is_free}
 use Rattle.fsm_machine.specs.MachineOf.{up, code_names}
 use Rattle.vbe_print.specs.Written.{as_port, as_ports}

@@ -1,5 +1,5 @@
 -- The names that the text of a state machine declares are identifiers of at most 64 bytes, and an entity can declare its ports.
-use Rattle.std.proofs.Common.{◌≡◌, ℕ, ◌≤◌, Bool, true, false, cond, List, [], ◌∷◌, ◌++◌, length, Option, None, Some, refl, sym, ap, subst, ◌∙◌}
+use Rattle.std.proofs.Common.{◌≡◌, ℕ, ◌≤◌, ◌^◌, ◌<◌, Bool, true, false, cond, List, [], ◌∷◌, ◌++◌, map, length, Option, None, Some, IfSome, refl, sym, ap, subst, ◌∙◌, arith}
 use Rattle.std.specs.List.Sorted.{IsPermutation}
 use Rattle.std.proofs.lemmas.List.Sorted.{IsPermutation-sym}
 use Rattle.vlsi_base.specs.declared.name.Port.{Port}
@@ -10,24 +10,25 @@ use Rattle.vlsi_base.specs.declared.fault.ReadError.{ReadError}
 use Rattle.vlsi_base.specs.Name.{is_supply}
 use Rattle.vlsi_base.specs.Member.{In, here, there, AllDifferent}
 use Rattle.grammar_theory.specs.declared.limits.TheConstants.{DEPTH}
-use Rattle.text_names.specs.Words.{IsIdentifier}
+use Rattle.text_names.specs.Words.{IsIdentifier, ArePortsNamed}
 use Rattle.source_checks.specs.declared.symbol_table.Role.TheVariants as role
 use Rattle.source_checks.specs.declared.symbol_table.Symbol.{Symbol}
-use Rattle.source_checks.specs.Symbols.{port_symbols, symbol_names}
+use Rattle.source_checks.specs.Symbols.{port_symbols, symbols_named, symbol_names}
 use Rattle.source_checks.specs.Checks.{if_symbol, first_repeated}
 use Rattle.source_checks.specs.Elaboration.{port_bits, ports_of_role}
 use Rattle.vlsi_model.proofs.Assembly.{In-permutation}
 use Rattle.vlsi_model.proofs.Bits.{texts, different_texts}
 use Rattle.vbe_writable.proofs.Cut.{AreNamed, named_in}
 use Rattle.vbe_writable.proofs.Saying.{Every, every_append, words_of, Says, says_then, says_behind, says_nothing}
-use Rattle.vbe_writable.proofs.Sources.{IsEntityWord, IsSymbolWord, says_entity, ports_words}
+use Rattle.vbe_writable.proofs.Sources.{IsEntityWord, IsSymbolWord, IsSmall, says_entity, ports_words}
 use Rattle.vbe_writable.proofs.Declaring.{AreBits, bits_named, bits_small, machine_dir, machine_bits}
 use Rattle.fsm_machine.specs.Fsm.{Fsm}
 use Rattle.fsm_text.specs.Written.{MachineTree}
 use Rattle.fsm_text.specs.Fsm.{architecture, machine}
 use Rattle.fsm_io.specs.Known.{symbols, inner_symbols, generic_symbols}
+use Rattle.fsm_io.specs.Checks.{fault_of, first_fault}
 use Rattle.fsm_io.specs.Text.{IsWritten, IsFsm}
-use Rattle.fsm_laws.specs.Writable.{FsmIsNamed, FsmIsShort}
+use Rattle.fsm_laws.specs.Writable.{IsNamed, FsmIsNamed, FsmIsShort}
 
 -- ---- what is written
 

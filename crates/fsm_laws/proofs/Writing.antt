@@ -1,18 +1,21 @@
 -- The machine of a state machine that is read can be written.
-use Rattle.std.proofs.Common.{◌≡◌, ℕ, List, [], ◌∷◌, length, codes, None, Some, sym, ap, subst, ◌∙◌, arith}
+use Rattle.std.proofs.Common.{◌≡◌, ℕ, ◌+◌, ◌<◌, ◌^◌, true, false, not, List, [], ◌∷◌, map, length, codes, Option, None, Some, bytes_eq, inl, inr, refl, sym, ap, subst, ◌∙◌, arith}
 use Rattle.std.specs.Ordering.{is_lt}
+use Rattle.std.proofs.lemmas.Bool.{and_parts}
 use Rattle.std.proofs.lemmas.List.{length-map}
 use Rattle.std.proofs.lemmas.List.Elements.{All-nil}
+use Rattle.std.proofs.lemmas.Slice.Eq.{bytes_eq-Decides}
 use Rattle.vlsi_base.specs.declared.name.Name.{Name}
 use Rattle.vlsi_base.specs.declared.name.Port.{Port}
-use Rattle.vlsi_base.specs.Member.{In}
+use Rattle.vlsi_base.specs.Member.{In, here, there}
 use Rattle.text_names.specs.Words.{IsIdentifier, ArePortsNamed}
-use Rattle.machine_core.specs.Machine.{Machine, Register, names_of}
+use Rattle.machine_core.specs.Machine.{Machine, Register, names_of, register_names}
 use Rattle.machine_core.specs.Checked.{AreInOrder}
 use Rattle.machine_core.proofs.Values.{In-map}
+use Rattle.text_names.specs.Free.{is_free}
 use Rattle.fsm_machine.specs.Fsm.{Fsm}
 use Rattle.fsm_machine.specs.Codes.{Codes}
-use Rattle.fsm_machine.specs.MachineOf.{machine_of}
+use Rattle.fsm_machine.specs.MachineOf.{machine_of, code_names}
 use Rattle.fsm_machine.proofs.Step.{register_names_are}
 use Rattle.fsm_io.specs.Text.{IsFsm}
 use Rattle.syf_machine.specs.Named.{port_texts, inner_names, IsMachineOf}

@@ -16,7 +16,7 @@ use Rattle.source_checks.specs.declared.symbol_table.Symbol.{Symbol}
 use Rattle.source_checks.specs.Symbols.{all_names, symbol_names, names_in, bit_name, find, has_bit}
 use Rattle.source_checks.specs.Formula.{place, names_of_found}
 use Rattle.source_checks.specs.Drivers.{is_among, target_names}
-use Rattle.source_checks.proofs.Lookups.{same_of}
+use Rattle.source_checks.proofs.Lookups.{itself, same_of}
 use Rattle.source_checks.proofs.Names.{is_among-append}
 use Rattle.source_bits.proofs.Ranging.{falls_out, rises_out}
 use Rattle.fsm_text.specs.Chains.{counted_bits, range_found}

@@ -1,10 +1,11 @@
 -- Each reader of a part of a state machine reads its grammar. What may stand in an if or a case is a parameter.
-use Rattle.std.proofs.Common.{◌≡◌, ℕ, ◌<◌, true, false, [], ◌∷◌, length, None, Some, Ok, refl}
+use Rattle.std.proofs.Common.{◌≡◌, ℕ, ◌<◌, true, false, List, [], ◌∷◌, length, Option, None, Some, Ok, refl}
 use Rattle.vlsi_base.specs.declared.entity.NewName.{NewName}
 use Rattle.vhdl_token.specs.declared.keyword.Keyword.TheVariants as word
 use Rattle.vhdl_token.specs.declared.token.Sign.TheVariants as sign
 use Rattle.grammar_theory.specs.declared.form.Form.{Form}
 use Rattle.grammar_theory.specs.declared.form.Form.TheVariants as form
+use Rattle.grammar_theory.specs.Tokens.{code}
 use Rattle.grammar_theory.specs.Marks.{starts, opens}
 use Rattle.grammar_theory.specs.Grammar.{Grammar, placed}
 use Rattle.grammar_theory.specs.Outcome.{At, Reader, placed_at}
@@ -18,10 +19,10 @@ use Rattle.vhdl_front.specs.Reading.{expression_at}
 use Rattle.vhdl_front.proofs.Language.{numbers, exact_closing, factor_firsts, expression_lasts}
 use Rattle.vhdl_front.proofs.Nested.{exact_expression}
 use Rattle.vhdl_front.proofs.EntityLanguage.{Language, item_consumes}
-use Rattle.vbe_text.specs.Vbe.{text, report, severity}
-use Rattle.vbe_text.specs.VbeReading.{text_at, reported_at, report_at, severe_at, severity_at}
+use Rattle.vbe_text.specs.Vbe.{target, text, report, severity}
+use Rattle.vbe_text.specs.VbeReading.{target_at, text_at, reported_at, report_at, severe_at, severity_at}
 use Rattle.vbe_text.proofs.VbeLanguage.{exact_target}
-use Rattle.fsm_text.specs.Written.{asserted, assigned, chosen, BodyTree, parts_of}
+use Rattle.fsm_text.specs.Written.{StatementTree, asserted, assigned, chosen, BodyTree, PartTree, BranchTree, parts_of, body_of}
 use Rattle.fsm_text.specs.Fsm.{used_name, next_name, sensitivity, assertion, assignment, part, further_part, last_part, behind_if, next_state, listed_states, listed_branch}
 use Rattle.fsm_text.specs.FsmReading.{used_name_at, next_name_at, listed_names_at, sensitivity_at, assertion_at, assignment_at, part_at, further_part_at, led_last_at, last_part_at, behind_if_at, next_state_at, listed_states_at, listed_branch_at}
 use Rattle.fsm_text.proofs.Headed.{exact_headed}

@@ -1,11 +1,14 @@
 -- Of a text one answer is right.
-use Rattle.std.proofs.Common.{◌≡◌, [], inl, inr, refl, ap, sym, ◌∙◌}
+use Rattle.std.proofs.Common.{◌≡◌, ℕ, ◌<◌, [], ◌⊎◌, inl, inr, refl, ap, sym, ◌∙◌}
+use Rattle.vlsi_base.specs.declared.fault.ReadError.{ReadError}
+use Rattle.vhdl_token.specs.declared.token.Tokens.{Tokens}
 use Rattle.grammar_theory.specs.declared.refusal.Refusal.{Refusal}
 use Rattle.grammar_theory.specs.Outcome.{start}
 use Rattle.grammar_theory.proofs.Unique as unique
 use Rattle.vhdl_front.specs.Front.{error_of}
+use Rattle.fsm_text.specs.Written.{MachineTree}
 use Rattle.fsm_text.specs.Fsm.{fsm}
-use Rattle.fsm_text.specs.Texts.{counted_in, chain_error, refused, chained}
+use Rattle.fsm_text.specs.Texts.{counted_in, PassesBefore, chain_error, IsMachine, RefusedAs, refused, chained}
 use Rattle.fsm_text.specs.Laws.{EachMachine, OneMachine, NeverBothMachine, OneRefusedMachine}
 use Rattle.fsm_text.proofs.Whole.{one, chained_before}
 use Rattle.fsm_text.proofs.Chains.{place_above, decided}

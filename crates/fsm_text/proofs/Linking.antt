@@ -1,6 +1,6 @@
 -- Linking from the last piece on.
 use Rattle.std.proofs.Common.{◌≡◌, List, [], ◌∷◌, ◌++◌, Option, None, Some, refl, ap}
-use Rattle.fsm_text.specs.Written.{StatementTree, BodyTree, next, followed, PartTree, PartsTree, parts_of, BranchTree, BranchesTree, listed, branched}
+use Rattle.fsm_text.specs.Written.{StatementTree, BodyTree, next, followed, PartTree, PartsTree, parts_of, further, BranchTree, BranchesTree, listed, branched}
 use Rattle.fsm_text.specs.Pieces.{linked_last, further_of, parts_before}
 
 pub followed-push : (ss : List StatementTree) (s : StatementTree) (rest : BodyTree) → followed (ss ++ s ∷ []) rest ≡ followed ss (next s rest)

@@ -1,5 +1,5 @@
 -- Reading branches in a loop: as long as a `when` stands next and no `others` behind it, then those.
-use Rattle.std.proofs.Common.{◌≡◌, ℕ, zero, suc, ◌≤◌, ◌<◌, Bool, true, false, List, [], ◌∷◌, ◌++◌, length, Option, Some, Result, Ok, Err, if◌then◌else◌, refl, sym, ap, ◌∙◌, append_assoc, arith}
+use Rattle.std.proofs.Common.{◌≡◌, ℕ, zero, suc, ◌≤◌, ◌<◌, Bool, true, false, List, [], ◌∷◌, ◌++◌, length, Option, None, Some, Result, Ok, Err, if◌then◌else◌, refl, sym, ap, ◌∙◌, append_assoc, arith}
 use Rattle.std.proofs.lemmas.List.{append-nil}
 use Rattle.vhdl_token.specs.declared.token.PlacedToken.{PlacedToken}
 use Rattle.vhdl_token.specs.declared.keyword.Keyword.TheVariants as word
@@ -12,7 +12,7 @@ use Rattle.grammar_theory.specs.declared.form.Form.{Form}
 use Rattle.grammar_theory.specs.Tokens.{is_of, is_at}
 use Rattle.grammar_theory.specs.Marks.{State, plain, step}
 use Rattle.grammar_theory.specs.Outcome.{At, Outcome, Reader, Fails, ◌>>=◌, passed, take_at, with_front}
-use Rattle.fsm_text.specs.Written.{BodyTree, BranchTree, BranchesTree, others, listed, branches_of}
+use Rattle.fsm_text.specs.Written.{BodyTree, BranchTree, BranchesTree, closed, others, listed, branches_of}
 use Rattle.fsm_text.specs.FsmReading.{listed_branch_at, others_branch_at, branch_before_at, behind_when_at, fewer_branches_at, branches_at}
 use Rattle.fsm_text.specs.Pieces.{goes_on, led_branch_at, listed_within_at, listed_list_at, led_others_at, others_at}
 

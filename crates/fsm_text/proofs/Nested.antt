@@ -1,15 +1,19 @@
 -- The same for ifs and cases within one another, however deep.
-use Rattle.std.proofs.Common.{◌≡◌, ℕ, zero, suc, ◌+◌, ◌-◌, ◌<◌, true, false, List, [], ◌∷◌, ◌++◌, length, None, inl, inr, refl, sym, subst, Ok, Err, arith}
-use Rattle.vlsi_base.specs.Tree.{name}
+use Rattle.std.proofs.Common.{◌≡◌, ℕ, zero, suc, ◌+◌, ◌-◌, ◌<◌, true, false, List, [], ◌∷◌, ◌++◌, length, None, inl, inr, refl, sym, subst, Result, Ok, Err, arith}
+use Rattle.vlsi_base.specs.Tree.{Tree, name}
 use Rattle.vhdl_token.specs.declared.keyword.Keyword.{Keyword}
 use Rattle.vhdl_token.specs.declared.keyword.Keyword.TheVariants as word
+use Rattle.vhdl_token.specs.declared.token.Sign.TheVariants as sign
+use Rattle.vhdl_token.specs.declared.token.PlacedToken.{PlacedToken}
 use Rattle.grammar_theory.specs.declared.form.Form.{Form}
 use Rattle.grammar_theory.specs.declared.form.Form.TheVariants as form
 use Rattle.grammar_theory.specs.declared.refusal.Breach.TheVariants as broken
 use Rattle.grammar_theory.specs.declared.refusal.Reason.TheVariants as reason
+use Rattle.grammar_theory.specs.Tokens.{code}
 use Rattle.grammar_theory.specs.Marks.{Item, State, plain, starts, opens, step}
-use Rattle.grammar_theory.specs.Grammar.{Grammar, none, nothing, item, one, Then, ◌or◌, list}
-use Rattle.grammar_theory.specs.Outcome.{At, Reader, refusal}
+use Rattle.grammar_theory.specs.Grammar.{Grammar, none, nothing, item, one, Then, ◌or◌, list, at_some}
+use Rattle.grammar_theory.specs.Outcome.{At, Reader, refusal, list_at}
+use Rattle.grammar_theory.specs.Answers.{Answers}
 use Rattle.grammar_theory.proofs.Sets.{Set}
 use Rattle.grammar_theory.proofs.Exact.{Shape}
 use Rattle.grammar_theory.proofs.Samples.{some_of, some_of-code}
@@ -25,7 +29,7 @@ use Rattle.vhdl_front.proofs.Language.{numbers, factor_firsts}
 use Rattle.vhdl_front.proofs.Nested.{sample_nested}
 use Rattle.fsm_text.specs.Written.{StatementTree, selected, chosen, closed, only, finish, BodyTree, PartTree, BranchTree, body_of}
 use Rattle.fsm_text.specs.Fsm.{used_name, part, further_part, last_part, behind_if, conditional, listed_branch, led_branch, others_branch, last_branch, branches, behind_case, case_statement, statement, body_over, nested, body}
-use Rattle.fsm_text.specs.FsmReading.{behind_if_at, conditional_at, behind_case_at, case_statement_at, statement_at, statement_list_at, body_over_at, inner_at, body_at, further_part_at}
+use Rattle.fsm_text.specs.FsmReading.{behind_if_at, conditional_at, behind_case_at, case_statement_at, statement_at, statement_kinds, statement_list_at, body_over_at, inner_at, body_at, part_at, further_part_at, listed_branch_at}
 use Rattle.fsm_text.specs.Pieces.{led_branch_at}
 use Rattle.fsm_text.proofs.FsmLanguage.{under, Bodies, body_firsts, exact_used_name, exact_assertion, exact_assignment, exact_further_part, exact_behind_if, exact_listed_branch, assert, if_word, case_word, elsif_word, semicolon}
 use Rattle.fsm_text.proofs.Whens.{exact_branches}

@@ -1,5 +1,5 @@
 -- Counting by numbers what is counted by names.
-use Rattle.std.proofs.Common.{◌≡◌, ◌≢◌, ℕ, zero, suc, ◌+◌, ◌≤◌, ◌<◌, nat_lt, Bool, true, false, cond, List, [], ◌∷◌, length, get_or, set, drop, map, replicate, None, Some, refl, sym, ap, subst, ◌∙◌, bytes_eq, arith}
+use Rattle.std.proofs.Common.{◌≡◌, ◌≢◌, ℕ, zero, suc, ◌+◌, ◌≤◌, ◌<◌, nat_lt, Bool, true, false, cond, List, [], ◌∷◌, ◌++◌, length, get_or, set, drop, map, replicate, Option, None, Some, refl, sym, ap, subst, ◌∙◌, bytes_eq, arith}
 use Rattle.std.specs.Prelude.{filter, ◌||◌}
 use Rattle.std.specs.List.{list_any}
 use Rattle.std.proofs.lemmas.List.{length-set, length-replicate, get_or-replicate, get_or-set_same, get_or-set_other}
@@ -9,13 +9,14 @@ use Rattle.vlsi_base.specs.declared.name.Name.{Name}
 use Rattle.grammar_theory.specs.declared.limits.TheConstants.{CHAIN}
 use Rattle.machine_core.specs.Named.{is_same_name}
 use Rattle.machine_core.proofs.Names.{same_name-true, same_name-itself, same_name-false}
+use Rattle.source_checks.specs.declared.statement.Target.{Target}
 use Rattle.source_checks.specs.declared.symbol_table.Symbol.{Symbol}
 use Rattle.source_checks.specs.Symbols.{all_names}
-use Rattle.source_checks.specs.Drivers.{is_among}
+use Rattle.source_checks.specs.Drivers.{is_among, target_names}
 use Rattle.source_checks.specs.Formula.{place}
 use Rattle.source_checks.specs.Checks.{first_repeated}
 use Rattle.source_checks.proofs.Lookups.{itself}
-use Rattle.fsm_text.specs.Chains.{times, taken, IsTally}
+use Rattle.fsm_text.specs.Chains.{times, taken, counted_bits, IsTally}
 
 -- ---- where no name is declared again, the texts are different
 

@@ -1,5 +1,5 @@
 -- Each reader of processes and of whole texts reads its grammar.
-use Rattle.std.proofs.Common.{ℕ, ◌-◌, true, false, List, [], ◌∷◌, Option, None, Some, refl}
+use Rattle.std.proofs.Common.{◌≡◌, ℕ, ◌-◌, true, false, List, [], ◌∷◌, Option, None, Some, refl}
 use Rattle.vlsi_base.specs.declared.entity.Entity.{Entity}
 use Rattle.vhdl_token.specs.declared.keyword.Keyword.TheVariants as word
 use Rattle.vhdl_token.specs.declared.token.Sign.TheVariants as sign
@@ -8,7 +8,7 @@ use Rattle.grammar_theory.specs.declared.form.Form.TheVariants as form
 use Rattle.grammar_theory.specs.Marks.{starts, opens, spells}
 use Rattle.grammar_theory.specs.Outcome.{At}
 use Rattle.grammar_theory.specs.Answers.{Answers}
-use Rattle.grammar_theory.proofs.Bundle.{exact_nothing, exact_one, exact_marked, exact_then, exact_behind}
+use Rattle.grammar_theory.proofs.Bundle.{exact_nothing, exact_one, exact_marked, exact_then, exact_behind, within}
 use Rattle.grammar_theory.proofs.Many.{exact_list}
 use Rattle.vhdl_front.specs.Cursor.{name_of}
 use Rattle.vhdl_front.proofs.Language.{numbers}

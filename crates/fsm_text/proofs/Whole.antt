@@ -1,16 +1,17 @@
 -- From reading to what the grammar says of a whole text.
-use Rattle.std.proofs.Common.{◌≡◌, Bool, true, false, cond, ◌||◌, ◌<◌, List, [], ◌∷◌, refl, sym, subst, Ok, Err}
+use Rattle.std.proofs.Common.{◌≡◌, ℕ, Bool, true, false, cond, ◌||◌, ◌<◌, List, [], ◌∷◌, refl, sym, subst, ◌∙◌, Ok, Err}
 use Rattle.vlsi_base.specs.declared.fault.ReadError.{ReadError}
 use Rattle.vlsi_base.specs.declared.fault.ReadError.TheVariants as errors
 use Rattle.vhdl_token.specs.declared.keyword.Keyword.TheVariants as word
 use Rattle.vhdl_token.specs.declared.token.PlacedToken.{PlacedToken}
 use Rattle.vhdl_token.specs.declared.token.Tokens.{Tokens}
+use Rattle.grammar_theory.specs.declared.form.Form.{Form}
 use Rattle.grammar_theory.specs.declared.form.Form.TheVariants as form
 use Rattle.grammar_theory.specs.declared.limits.TheConstants.{DEPTH}
 use Rattle.grammar_theory.specs.declared.refusal.Refusal.{Refusal}
 use Rattle.grammar_theory.specs.declared.refusal.Stop.{Stop}
 use Rattle.grammar_theory.specs.declared.refusal.Stop.TheVariants as stop
-use Rattle.grammar_theory.specs.Tokens.{is_of, is_at, among}
+use Rattle.grammar_theory.specs.Tokens.{code, is_of, is_at, among}
 use Rattle.grammar_theory.specs.Outcome.{At, Outcome, Fails, start, finish}
 use Rattle.grammar_theory.specs.Answers.{Rejects, AnswersAll}
 use Rattle.grammar_theory.specs.Unique.{OneAnswerToAll}
@@ -21,7 +22,7 @@ use Rattle.vhdl_front.proofs.Language.{numbers}
 use Rattle.fsm_text.specs.Written.{MachineTree}
 use Rattle.fsm_text.specs.Fsm.{fsm}
 use Rattle.fsm_text.specs.FsmReading.{machine_at, statement_kinds}
-use Rattle.fsm_text.specs.Texts.{PassesBefore, chain_error, IsMachine, RefusedAs, refused, chained, IsRefusedMachine, StopsText}
+use Rattle.fsm_text.specs.Texts.{PassesChain, PassesBefore, chain_error, IsMachine, RefusedAs, refused, chained, IsRefusedMachine, StopsText}
 use Rattle.fsm_text.proofs.Texts.{exact_machine, machine_answers}
 
 pub among_four : (ts : List PlacedToken) → among statement_kinds ts

@@ -1,11 +1,11 @@
 // Counting the assignments of each output bit and of the next state.
-ghost use Rattle.std.specs.Prelude.{◌≡◌, ◌<◌, ◌^◌, [], ◌++◌, List, None, Some, IfOk, MatchOption, true, false, filter, map, length};
+ghost use Rattle.std.specs.Prelude.{◌≡◌, ◌<◌, ◌^◌, ◌∷◌, [], ◌++◌, List, None, Some, IfOk, MatchOption, true, false, filter, map, replicate, length};
 ghost use Rattle.std.specs.Bool.{OnTrue, OnFalse};
 ghost use Rattle.std.specs.Option.{option_copied};
 ghost use Rattle.vlsi_base.specs.declared.name.Name.{Name};
 ghost use Rattle.machine_core.specs.Order.{AllDifferent};
 ghost use Rattle.source_checks.specs.Symbols.{port_symbols, all_names};
-ghost use Rattle.fsm_text.specs.Chains.{named_by, assigned_here, is_out, next_symbols, counted_bits, taken, overfull, passes_before, IsTally};
+ghost use Rattle.fsm_text.specs.Chains.{named_by, assigned_here, is_out, next_symbols, counted_symbols, counted_bits, taken, overfull, passes_before, IsTally};
 ghost use Rattle.fsm_text.specs.Texts.{chain_error, PassesBefore};
 
 use crate::clipping::declared_part;

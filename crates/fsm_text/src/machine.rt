@@ -1,5 +1,5 @@
 // Reading whole texts.
-ghost use Rattle.std.specs.Prelude.{◌<◌, ◌∷◌, [], length, IfOk, IfErr};
+ghost use Rattle.std.specs.Prelude.{◌≡◌, ◌<◌, ◌∷◌, [], length, IfOk, IfErr};
 ghost use Rattle.grammar_theory.specs.Tokens.{code};
 ghost use Rattle.grammar_theory.specs.Outcome.{Gives, finish, list_at, with_front};
 ghost use Rattle.vhdl_front.specs.EntityReading.{declared_at, another_at};

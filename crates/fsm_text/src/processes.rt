@@ -1,6 +1,7 @@
 // Reading the two processes.
-ghost use Rattle.std.specs.Prelude.{None, Some};
+ghost use Rattle.std.specs.Prelude.{◌≡◌, None, Some};
 ghost use Rattle.std.specs.Option.{option_copied};
+ghost use Rattle.vlsi_base.specs.Tree.{operand_of};
 ghost use Rattle.grammar_theory.specs.Outcome.{Gives};
 ghost use Rattle.fsm_text.specs.Written.{step_view, clock_view};
 ghost use Rattle.fsm_text.specs.FsmReading.{led_label_at, label_at, process_head_at, label_again_at, process_end_at, step_process_at, load_at, loading_at, clock_process_at};

@@ -5,7 +5,7 @@ ghost use Rattle.grammar_theory.specs.Tokens.{code, among, is_at};
 ghost use Rattle.grammar_theory.specs.Outcome.{Gives, list_at};
 ghost use Rattle.vbe_text.specs.VbeReading.{report_at, severity_at};
 ghost use Rattle.fsm_text.specs.Written.{statement_view, body_view, branches_view};
-ghost use Rattle.fsm_text.specs.FsmReading.{assertion_at, assignment_at, part_at, further_part_at, last_part_at, conditional_at, listed_branch_at, branches_at, case_statement_at, statement_at, statement_kinds, statement_list_at, inner_at, body_at};
+ghost use Rattle.fsm_text.specs.FsmReading.{assertion_at, assignment_at, part_at, further_part_at, last_part_at, conditional_at, listed_branch_at, others_branch_at, branches_at, case_statement_at, statement_at, statement_kinds, statement_list_at, inner_at, body_at};
 ghost use Rattle.fsm_text.specs.Pieces.{goes_on, led_branch_at, listed_list_at, others_at, part_view, branch_view};
 
 use crate::file::{Body, Branches, Statement};

@@ -1,16 +1,16 @@
 -- A grammar and its reader: all laws in one, and how they follow for what is built of such parts. S is a part of the
 -- grammar, as the sentences that are nested less deep. All but the laws of shape is under a premise P, since the laws of
 -- shape alone are needed where there is no reader.
-use Rattle.std.proofs.Common.{◌≡◌, ℕ, Bool, true, false, cond, eqb, List, [], ◌∷◌, ◌++◌, inl, inr, refl, ap, subst, Ok}
+use Rattle.std.proofs.Common.{◌≡◌, ℕ, Bool, true, false, cond, eqb, List, [], ◌∷◌, ◌++◌, inl, inr, refl, sym, ap, subst, ◌∙◌, Ok}
 use Rattle.std.proofs.lemmas.Bool.{eqb-true}
 use Rattle.vhdl_token.specs.declared.token.PlacedToken.{PlacedToken}
 use Rattle.grammar_theory.specs.declared.form.Form.{Form}
 use Rattle.grammar_theory.specs.Tokens.{code, code_of, is_of, is_at, among}
 use Rattle.grammar_theory.specs.Marks.{Mark, plain, Item}
-use Rattle.grammar_theory.specs.Grammar.{Grammar, none, nothing, item, marked, one, Then, ◌or◌}
+use Rattle.grammar_theory.specs.Grammar.{Grammar, none, nothing, item, marked, one, Then, ◌or◌, Begins}
 use Rattle.grammar_theory.specs.Answers.{Answers}
 use Rattle.grammar_theory.specs.Outcome.{At, Outcome, Reader, ◌>>=◌, take_marked, take_at}
-use Rattle.grammar_theory.proofs.Sets.{Set, elem, disjoint, or_true, either_of}
+use Rattle.grammar_theory.proofs.Sets.{Set, elem, has, disjoint, or_true, either_of}
 use Rattle.grammar_theory.proofs.Exact.{Shape, Reads, nothing_shape, nothing_reads, one_shape, one_reads}
 use Rattle.grammar_theory.proofs.Sequence.{null_both, when_null, then_shape, then_reads}
 use Rattle.grammar_theory.proofs.Either.{Opened, either_shape, either_answers}

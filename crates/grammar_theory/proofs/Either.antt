@@ -6,10 +6,11 @@ use Rattle.grammar_theory.specs.Tokens.{code_of, among}
 use Rattle.grammar_theory.specs.declared.refusal.Breach.{Breach}
 use Rattle.grammar_theory.specs.declared.refusal.Reason.{Reason}
 use Rattle.grammar_theory.specs.declared.refusal.Reason.TheVariants as reason
+use Rattle.grammar_theory.specs.declared.refusal.Refusal.{Refusal}
 use Rattle.grammar_theory.specs.Marks.{Item, State}
 use Rattle.grammar_theory.specs.Grammar.{Grammar, ◌or◌, Begins}
 use Rattle.grammar_theory.specs.Outcome.{At, Outcome}
-use Rattle.grammar_theory.specs.Answers.{Meets, Faults, Blames, Answers, tokens_of}
+use Rattle.grammar_theory.specs.Answers.{Meets, Faults, Breaks, Blames, Answers, tokens_of}
 use Rattle.grammar_theory.proofs.Sets.{Set, has, elem, disjoint, clash, by_test, elem-left, elem-right}
 use Rattle.grammar_theory.proofs.Exact.{Shape}
 use Rattle.grammar_theory.proofs.Sequence.{when_null, in_null, Away}

@@ -1,10 +1,11 @@
 -- All of the tokens.
-use Rattle.std.proofs.Common.{◌≡◌, List, [], ◌∷◌, refl, sym, subst, Ok, Err}
+use Rattle.std.proofs.Common.{◌≡◌, List, [], ◌∷◌, ◌++◌, refl, sym, subst, ◌∙◌, Ok, Err}
 use Rattle.std.proofs.lemmas.List.{append-nil}
 use Rattle.vhdl_token.specs.declared.token.PlacedToken.{PlacedToken}
+use Rattle.grammar_theory.specs.declared.refusal.Refusal.{Refusal}
 use Rattle.grammar_theory.specs.declared.refusal.Reason.{Reason}
 use Rattle.grammar_theory.specs.declared.refusal.Reason.TheVariants as reason
-use Rattle.grammar_theory.specs.Marks.{Item, State}
+use Rattle.grammar_theory.specs.Marks.{Item, State, run}
 use Rattle.grammar_theory.specs.Grammar.{Grammar}
 use Rattle.grammar_theory.specs.Outcome.{At, Outcome, finished, finish}
 use Rattle.grammar_theory.specs.Answers.{Accepts, Blames, Answers, Ends, AnswersAll}

@@ -1,15 +1,17 @@
 -- The laws of a grammar that is read from left to right by the next token alone, and of its reader.
-use Rattle.std.proofs.Common.{◌≡◌, Bool, true, false, eqb, List, [], ◌∷◌, ◌++◌, refl, sym, ap, ◌∙◌, Result, Ok, Err}
+use Rattle.std.proofs.Common.{◌≡◌, ℕ, Bool, true, false, cond, eqb, List, [], ◌∷◌, ◌++◌, refl, sym, ap, ◌∙◌, Result, Ok, Err}
 use Rattle.std.proofs.lemmas.Bool.{eqb-true, eq-eqb}
 use Rattle.vhdl_token.specs.declared.token.PlacedToken.{PlacedToken}
 use Rattle.grammar_theory.specs.declared.form.Form.{Form}
 use Rattle.grammar_theory.specs.Tokens.{code, code_of, is_of}
 use Rattle.grammar_theory.specs.declared.refusal.Breach.{Breach}
+use Rattle.grammar_theory.specs.declared.refusal.Reason.{Reason}
 use Rattle.grammar_theory.specs.declared.refusal.Reason.TheVariants as reason
+use Rattle.grammar_theory.specs.declared.refusal.Refusal.{Refusal}
 use Rattle.grammar_theory.specs.Marks.{Mark, Item, State, step, run, go_on}
-use Rattle.grammar_theory.specs.Grammar.{Grammar, nothing, item, One, marked}
+use Rattle.grammar_theory.specs.Grammar.{Grammar, nothing, item, One, marked, Begins}
 use Rattle.grammar_theory.specs.Outcome.{At, Outcome, Reader, refusal, passed, take_from, take_marked}
-use Rattle.grammar_theory.specs.Answers.{Meets, Answers}
+use Rattle.grammar_theory.specs.Answers.{Meets, Answers, tokens_of}
 use Rattle.grammar_theory.proofs.Sets.{Set, elem, has, by_test, cond_true}
 
 -- The value of a sentence is one. `null`: the empty list may be a sentence. `firsts`: the tokens that a sentence may

@@ -5,10 +5,11 @@ use Rattle.vhdl_token.specs.declared.token.PlacedToken.{PlacedToken}
 use Rattle.grammar_theory.specs.declared.refusal.Breach.{Breach}
 use Rattle.grammar_theory.specs.declared.refusal.Reason.{Reason}
 use Rattle.grammar_theory.specs.declared.refusal.Reason.TheVariants as reason
+use Rattle.grammar_theory.specs.declared.refusal.Refusal.{Refusal}
 use Rattle.grammar_theory.specs.Marks.{Item, State, run}
-use Rattle.grammar_theory.specs.Grammar.{Grammar, at_some}
-use Rattle.grammar_theory.specs.Outcome.{At, Outcome}
-use Rattle.grammar_theory.specs.Answers.{Refuses, Blames, Answers, tokens_of}
+use Rattle.grammar_theory.specs.Grammar.{Grammar, at_some, Begins}
+use Rattle.grammar_theory.specs.Outcome.{At, Outcome, Reader}
+use Rattle.grammar_theory.specs.Answers.{Meets, Accepts, Refuses, Blames, Answers, tokens_of}
 use Rattle.grammar_theory.proofs.Sets.{Set}
 use Rattle.grammar_theory.proofs.Exact.{Shape}
 

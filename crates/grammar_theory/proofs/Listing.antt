@@ -1,5 +1,5 @@
 -- Reading items in a loop.
-use Rattle.std.proofs.Common.{◌≡◌, ℕ, zero, suc, ◌≤◌, ◌<◌, true, false, List, [], ◌∷◌, ◌++◌, length, Ok, Err, refl, sym, ap, subst, ◌∙◌, append_assoc, arith}
+use Rattle.std.proofs.Common.{◌≡◌, ℕ, zero, suc, ◌≤◌, ◌<◌, Bool, true, false, cond, eqb, List, [], ◌∷◌, ◌++◌, length, Ok, Err, refl, sym, ap, subst, ◌∙◌, append_assoc, arith}
 use Rattle.std.proofs.lemmas.List.{append-nil}
 use Rattle.vhdl_token.specs.declared.token.PlacedToken.{PlacedToken}
 use Rattle.grammar_theory.specs.declared.refusal.Stop.{Stop}
@@ -11,6 +11,7 @@ use Rattle.grammar_theory.specs.Answers.{Accepts, Answers}
 use Rattle.grammar_theory.proofs.Sets.{Set}
 use Rattle.grammar_theory.proofs.Exact.{Shape, Reads}
 use Rattle.grammar_theory.proofs.Many.{shorter}
+use Rattle.grammar_theory.proofs.Bundle.{Exact}
 
 -- what a loop keeps, with the items so far in done, where total is what the whole loop reads
 pub record Listed {A : Type 0} (kinds : Set) (item : Reader A) (done : List A) (here : At) (total : Outcome (List A)) : Type 0 where

@@ -1,18 +1,19 @@
 -- Items one behind the other, as many as there are.
-use Rattle.std.proofs.Common.{◌≡◌, ℕ, zero, suc, ◌+◌, ◌≤◌, ◌<◌, true, false, List, [], ◌∷◌, ◌++◌, length, inl, inr, refl, sym, ap, subst, ◌∙◌, Ok, Err, arith}
+use Rattle.std.proofs.Common.{◌≡◌, ℕ, zero, suc, ◌+◌, ◌≤◌, ◌<◌, Bool, true, false, cond, List, [], ◌∷◌, ◌++◌, length, inl, inr, refl, sym, ap, subst, ◌∙◌, Ok, Err, arith}
 use Rattle.std.proofs.lemmas.List.{append-nil, length-append}
 use Rattle.vhdl_token.specs.declared.token.PlacedToken.{PlacedToken}
-use Rattle.grammar_theory.specs.Tokens.{code_of}
+use Rattle.grammar_theory.specs.Tokens.{code_of, among}
 use Rattle.grammar_theory.specs.declared.refusal.Breach.{Breach}
 use Rattle.grammar_theory.specs.declared.refusal.Reason.{Reason}
 use Rattle.grammar_theory.specs.declared.refusal.Reason.TheVariants as reason
-use Rattle.grammar_theory.specs.Marks.{Item, State}
-use Rattle.grammar_theory.specs.Grammar.{Grammar, none, nothing, Then, ◌or◌, list}
+use Rattle.grammar_theory.specs.declared.refusal.Refusal.{Refusal}
+use Rattle.grammar_theory.specs.Marks.{Item, State, run}
+use Rattle.grammar_theory.specs.Grammar.{Grammar, none, nothing, Then, ◌or◌, Begins, list}
 use Rattle.grammar_theory.specs.Outcome.{At, Outcome, Reader, ◌>>=◌, many_at, list_at}
 use Rattle.grammar_theory.specs.Answers.{Accepts, Blames, Answers, tokens_of}
-use Rattle.grammar_theory.proofs.Sets.{Set, elem, disjoint, either_of, elem-left, elem-right}
+use Rattle.grammar_theory.proofs.Sets.{Set, elem, has, disjoint, either_of, elem-left, elem-right}
 use Rattle.grammar_theory.proofs.Exact.{Shape, Reads, nothing_shape, nothing_reads}
-use Rattle.grammar_theory.proofs.Sequence.{Parts, then_shape, then_answers}
+use Rattle.grammar_theory.proofs.Sequence.{when_null, Parts, then_shape, then_answers}
 use Rattle.grammar_theory.proofs.Either.{Opened, either_shape, either_answers}
 use Rattle.grammar_theory.proofs.Bundle.{Exact, larger, none_shape}
 

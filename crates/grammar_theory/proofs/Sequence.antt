@@ -6,11 +6,12 @@ use Rattle.grammar_theory.specs.Tokens.{code_of}
 use Rattle.grammar_theory.specs.declared.refusal.Breach.{Breach}
 use Rattle.grammar_theory.specs.declared.refusal.Reason.{Reason}
 use Rattle.grammar_theory.specs.declared.refusal.Reason.TheVariants as reason
+use Rattle.grammar_theory.specs.declared.refusal.Refusal.{Refusal}
 use Rattle.grammar_theory.specs.Marks.{Item, State, run, step, go_on}
 use Rattle.grammar_theory.specs.Grammar.{Grammar, Then, Begins}
 use Rattle.grammar_theory.specs.Outcome.{At, Outcome, Reader, ◌>>=◌}
-use Rattle.grammar_theory.specs.Answers.{Meets, Accepts, Faults, Blames, Answers, tokens_of}
-use Rattle.grammar_theory.proofs.Sets.{Set, elem, has, disjoint, clash, elem-left, elem-right, Over, split}
+use Rattle.grammar_theory.specs.Answers.{Meets, Accepts, Faults, Breaks, Blames, Answers, tokens_of}
+use Rattle.grammar_theory.proofs.Sets.{Set, elem, has, disjoint, clash, elem-left, elem-right, Over, Under, split}
 use Rattle.grammar_theory.proofs.Exact.{Shape, Reads}
 
 -- The first part of a sentence reaches as far as each list with which a sentence of the first grammar begins.

@@ -1,14 +1,15 @@
 -- A token that is a breach wherever it stands.
-use Rattle.std.proofs.Common.{◌≡◌, Bool, false, List, [], ◌∷◌, ◌++◌, refl, Result, Ok, Err}
+use Rattle.std.proofs.Common.{◌≡◌, Bool, true, false, List, [], ◌∷◌, ◌++◌, refl, sym, ap, ◌∙◌, Result, Ok, Err}
+use Rattle.std.proofs.lemmas.List.{append-nil}
 use Rattle.vhdl_token.specs.declared.token.PlacedToken.{PlacedToken}
 use Rattle.grammar_theory.specs.declared.form.Form.{Form}
 use Rattle.grammar_theory.specs.declared.refusal.Breach.{Breach}
 use Rattle.grammar_theory.specs.declared.refusal.Reason.TheVariants as reason
-use Rattle.grammar_theory.specs.Tokens.{code, is_of}
+use Rattle.grammar_theory.specs.Tokens.{code, code_of, is_of}
 use Rattle.grammar_theory.specs.Marks.{Mark, Item, State, step}
-use Rattle.grammar_theory.specs.Grammar.{Grammar, marked, Then}
+use Rattle.grammar_theory.specs.Grammar.{Grammar, item, marked, Then}
 use Rattle.grammar_theory.specs.Outcome.{At, Outcome, Reader, refusal, passed, take_from, take_marked, ◌>>=◌}
-use Rattle.grammar_theory.proofs.Sets.{Set, by_test}
+use Rattle.grammar_theory.proofs.Sets.{Set, disjoint, by_test}
 use Rattle.grammar_theory.proofs.Exact.{Shape, one_shape}
 use Rattle.grammar_theory.proofs.Sequence.{Parts, when_null, then_shape, then_answers}
 use Rattle.grammar_theory.proofs.Bundle.{Exact, exact_marked}

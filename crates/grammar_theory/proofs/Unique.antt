@@ -7,9 +7,9 @@ use Rattle.grammar_theory.specs.declared.refusal.Reason.{Reason}
 use Rattle.grammar_theory.specs.declared.refusal.Reason.TheVariants as reason
 use Rattle.grammar_theory.specs.declared.refusal.Refusal.{Refusal}
 use Rattle.grammar_theory.specs.Marks.{Item, State, step, run, go_on}
-use Rattle.grammar_theory.specs.Grammar.{Grammar}
+use Rattle.grammar_theory.specs.Grammar.{Grammar, Begins}
 use Rattle.grammar_theory.specs.Outcome.{At, Outcome, Reader, finish}
-use Rattle.grammar_theory.specs.Answers.{Meets, Accepts, StopsAt, Refuses, Breaks, Blames, Ends, Rejects, Answers, AnswersAll, tokens_of}
+use Rattle.grammar_theory.specs.Answers.{Meets, Accepts, StopsAt, Refuses, Faults, Breaks, Blames, Misses, Ends, Rejects, Answers, AnswersAll, tokens_of}
 use Rattle.grammar_theory.specs.Unique.{OneAnswer, OneAnswerToAll}
 use Rattle.grammar_theory.proofs.Sets.{Set}
 use Rattle.grammar_theory.proofs.Exact.{Shape}

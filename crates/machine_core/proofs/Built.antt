@@ -4,7 +4,7 @@ use Rattle.std.specs.List.{slice_index_or, All}
 use Rattle.std.proofs.lemmas.List.{length-map}
 use Rattle.std.proofs.lemmas.List.Elements.{All-head, All-tail}
 use Rattle.vlsi_base.specs.declared.name.Name.{Name}
-use Rattle.bool_expr.specs.Expression.{bit, val}
+use Rattle.bool_expr.specs.Expression.{bit, val, variables}
 use Rattle.machine_core.specs.Named.{value_at, values_at}
 use Rattle.machine_core.specs.Machine.{Machine, Equation, inputs, register_names}
 use Rattle.machine_core.specs.Cycles.{Settles}

@@ -1,5 +1,5 @@
 // How large a machine is.
-ghost use Rattle.std.specs.Prelude.{◌≡◌, ◌+◌, ◌-◌, ◌^◌, length, min, filter, not};
+ghost use Rattle.std.specs.Prelude.{◌≡◌, ◌+◌, ◌*◌, ◌-◌, ◌^◌, length, min, filter, not};
 ghost use Rattle.std.specs.List.{sum_by};
 ghost use Rattle.bool_expr.specs.Expression.{size_of};
 ghost use Rattle.bool_expr.specs.View.{view};

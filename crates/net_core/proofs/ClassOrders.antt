@@ -1,6 +1,7 @@
 -- An order of classes from one of what they read; and no ring of classes where no output pins stand in a ring.
 use Rattle.std.proofs.Common.{◌≡◌, ℕ, zero, suc, ◌+◌, ◌<◌, ◌≤◌, List, [], ◌∷◌, ◌++◌, length, get_or, map, Some, refl, sym, ap, subst, ◌∙◌, arith}
-use Rattle.std.specs.Prelude.{slice_index, Contains}
+use Rattle.std.specs.Prelude.{slice_index, slice_index_or, Contains}
+use Rattle.std.specs.List.{All}
 use Rattle.std.specs.Global.{Vec}
 use Rattle.std.proofs.lemmas.List.{length-map}
 use Rattle.std.proofs.lemmas.Option.{slice_get_within, slice_get-get_or, get_or_from_slice_get}
@@ -11,9 +12,9 @@ use Rattle.net_core.specs.declared.links.Link.{Link}
 use Rattle.net_core.specs.Places.{Stands, IsThere}
 use Rattle.net_core.specs.Netlist.{Netlist, IsNetlist, HasClass}
 use Rattle.net_core.specs.Checks.{DependsOn, Passes}
-use Rattle.net_core.specs.Links.{AreLinks, AreGrouped, inputs_of, next_in, IsClassOrder}
+use Rattle.net_core.specs.Links.{AreLinks, AreGrouped, inputs_of, next_in, AreChosen, IsClassOrder}
 use Rattle.net_core.proofs.Finishing.{class_once}
-use Rattle.net_core.proofs.Rings.{at_place, ring_reads, read_link, link_read, ChosenSoFar, chosen_start, chosen_step, ring_inside, terminal_ring, link_below}
+use Rattle.net_core.proofs.Rings.{at_place, ring_reads, read_link, link_read, ChosenSoFar, chosen_start, chosen_step, ring_inside, terminal_ring, link_below, each_there}
 
 chosen_upto : (groups : List (Vec Link)) (ring : List ℕ) → order.IsRing (inputs_of groups) ring → (n : ℕ) → n ≤ length ring → (chosen : List Link) × ChosenSoFar groups ring chosen n
 chosen_upto groups ring r zero l = ([], chosen_start groups ring [] refl)

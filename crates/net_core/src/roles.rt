@@ -1,6 +1,6 @@
 // What each terminal of a netlist does, by a table of pins.
 ghost use Rattle.std.specs.Prelude.{◌≡◌, ◌<◌, ◌++◌, map, length, IfOk, OnOk};
-ghost use Rattle.std.specs.List.{All};
+ghost use Rattle.std.specs.List.{All, flat_map};
 ghost use Rattle.net_core.specs.Frame.{instance_of};
 ghost use Rattle.net_core.specs.Places.{NoneTwice};
 ghost use Rattle.net_core.specs.Checks.{Fits, port_role, pin_role, pins_named, pin_roles, roles, all_clocks};

@@ -1,5 +1,5 @@
 // What terminals do in their classes, and how many do.
-ghost use Rattle.std.specs.Prelude.{◌≡◌, ◌<◌, ◌^◌, length, IfOk};
+ghost use Rattle.std.specs.Prelude.{◌≡◌, ◌<◌, ◌^◌, length, map, IfOk, OnOk, ◌++◌};
 ghost use Rattle.std.specs.List.{All, zip};
 ghost use Rattle.net_core.specs.Checks.{with_one, port_role, pin_role, is_unconnected, has_fault, AtMost, AreTallies, IsFirstTally, IsFirstFault};
 

@@ -1,25 +1,26 @@
 -- What is put together is the system of a machine with other names.
-use Rattle.std.proofs.Common.{◌≡◌, ℕ, ◌+◌, ◌-◌, ◌<◌, ◌≤◌, ◌^◌, Bool, List, [], ◌∷◌, ◌++◌, map, length, take, get_or, Option, Some, refl, sym, ap, ◌∙◌, subst, arith, append_assoc, length-append, cond}
-use Rattle.std.specs.Prelude.{is_some}
-use Rattle.std.specs.List.{list_any}
+use Rattle.std.proofs.Common.{◌≡◌, ℕ, zero, suc, ◌+◌, ◌-◌, ◌<◌, ◌≤◌, ◌^◌, Bool, List, [], ◌∷◌, ◌++◌, map, length, take, get_or, Option, Some, refl, sym, ap, ◌∙◌, subst, arith, append_assoc, length-append, cond}
+use Rattle.std.specs.Prelude.{is_some, slice_get}
+use Rattle.std.specs.List.{All, list_any}
 use Rattle.std.specs.List.Sorted.{IsPermutation}
 use Rattle.std.specs.FinMap.{get}
 use Rattle.std.proofs.lemmas.List.{length-map, map-append}
 use Rattle.vlsi_base.specs.declared.name.Name.{Name}
 use Rattle.vlsi_base.specs.declared.name.Port.{Port}
 use Rattle.vlsi_base.specs.NamePlaces.{NamePlaces}
-use Rattle.vlsi_base.specs.Member.{In}
+use Rattle.vlsi_base.specs.Member.{In, AllDifferent}
 use Rattle.vlsi_base.specs.Range.{rising}
 use Rattle.machine_core.specs.Named.{is_same_name}
 use Rattle.machine_core.specs.Machine.{Machine, Equation, Register, inputs, names_of, register_names}
 use Rattle.machine_core.specs.declared.equation.Equation.{Equation as EquationParts}
-use Rattle.machine_core.specs.View.{equation_view}
+use Rattle.machine_core.specs.declared.equation.Register.{Register as RegisterParts}
+use Rattle.machine_core.specs.View.{equation_view, register_view}
 use Rattle.machine_core.specs.Order.{held_names, equation_names}
 use Rattle.machine_core.specs.Checked.{IsChecked, AreInOrder}
 use Rattle.source_bits.specs.Driven.{Numbered, NumberedStorage}
 use Rattle.vlsi_model.specs.Numbered.{name_at}
 use Rattle.vlsi_model.proofs.Building.{map-then}
-use Rattle.vlsi_model.proofs.Assembly.{In-permutation}
+use Rattle.vlsi_model.proofs.Assembly.{All-from_In, In-permutation}
 use Rattle.vlsi_model.proofs.Naming.{rising_more}
 use Rattle.vlsi_model.proofs.Bits.{In-rising}
 use Rattle.vlsi_model.proofs.Members.{In-map_back}
@@ -28,8 +29,8 @@ use Rattle.std.proofs.lemmas.List.Sorted.{IsPermutation-sym}
 use Rattle.net_machine.proofs.Local.{take_front}
 use Rattle.bit_machine.specs.System.{System, IsSystem, Falls, FitsPorts, IsMachineOfBits}
 use Rattle.net_flat.specs.declared.renaming.Seat.{Seat}
-use Rattle.net_flat.specs.Renamed.{seat_at, stored_of, driven_from, inner_name, inner_names, is_port, new_names, IsLongerThan, AreAllNames, AreRenamed, AreFree, IsRenamed}
-use Rattle.net_flat.proofs.Bits.{Setting, names_count, is_system, falls, fits_ports}
+use Rattle.net_flat.specs.Renamed.{seat_at, stored_of, driven_from, inner_name, inner_names, is_port, new_names, renamed_system, IsLongerThan, AreAllNames, AreRenamed, AreFree, IsRenamed}
+use Rattle.net_flat.proofs.Bits.{Setting, system, names_count, is_system, falls, fits_ports}
 use Rattle.net_flat.proofs.Lists.{names_whole}
 use Rattle.net_flat.proofs.Settled.{is_renamed}
 

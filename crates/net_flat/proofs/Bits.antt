@@ -1,8 +1,9 @@
 -- The bits of a machine with other names for its registers are a system.
-use Rattle.std.proofs.Common.{◌≡◌, ◌⊎◌, inl, inr, ℕ, suc, ◌+◌, ◌-◌, ◌<◌, ◌≤◌, Bool, true, false, cond, not, List, [], ◌∷◌, ◌++◌, map, length, filter, Option, None, Some, refl, sym, ap, ◌∙◌, subst, arith, append_assoc, length-append}
-use Rattle.std.specs.Prelude.{codes}
+use Rattle.std.proofs.Common.{◌≡◌, ◌≢◌, ◌⊎◌, inl, inr, ℕ, zero, suc, ◌+◌, ◌-◌, ◌<◌, ◌≤◌, Bool, true, false, cond, not, List, [], ◌∷◌, ◌++◌, map, length, get_or, filter, Option, None, Some, refl, sym, ap, ◌∙◌, subst, arith, append_assoc, length-append}
+use Rattle.std.specs.Prelude.{slice_index, codes}
+use Rattle.std.specs.List.{All, list_any}
 use Rattle.std.specs.List.Sorted.{IsPermutation}
-use Rattle.std.proofs.lemmas.List.{length-map}
+use Rattle.std.proofs.lemmas.List.{length-map, map-append, get_or-map}
 use Rattle.std.proofs.lemmas.List.Sorted.{IsPermutation-map, IsPermutation-sym}
 use Rattle.std.proofs.lemmas.Bool.{cases_lt}
 use Rattle.vlsi_base.specs.declared.name.Name.{Name}
@@ -11,7 +12,8 @@ use Rattle.vlsi_base.specs.declared.name.Dir.{Dir}
 use Rattle.vlsi_base.specs.declared.name.Dir.TheVariants as dir
 use Rattle.vlsi_base.specs.Range.{rising}
 use Rattle.vlsi_base.specs.Member.{In, here, there, AllDifferent}
-use Rattle.bool_expr.specs.Expression.{Expression, constant, variable, inverse, pair, choice, IsOver}
+use Rattle.bool_expr.specs.Expression.{Expression, constant, variable, inverse, pair, choice, variables, IsOver}
+use Rattle.machine_core.specs.Named.{is_same_name}
 use Rattle.machine_core.specs.Machine.{Machine, Equation, Register, is_input, is_clock, names_of, inputs, input_ports, outputs, register_names}
 use Rattle.machine_core.specs.Order.{held_names, equation_names, EachReadsBelow}
 use Rattle.machine_core.specs.Checked.{IsChecked, IsNoSupply, AreInOrder}
@@ -20,17 +22,18 @@ use Rattle.machine_core.proofs.Values.{In-split, In-left, In-right, In-map}
 use Rattle.machine_core.proofs.Known.{IsOver-In}
 use Rattle.source_bits.specs.Driven.{Numbered, NumberedStorage}
 use Rattle.vlsi_model.specs.Numbered.{name_at}
+use Rattle.vlsi_model.specs.Laid.{inputs_of}
 use Rattle.vlsi_model.proofs.Members.{In-cases, In-map_back, different_left, different_right, different_append, different_map}
 use Rattle.vlsi_model.proofs.Bits.{In-rising, rising-In, different_rising}
 use Rattle.vlsi_model.proofs.PortBits.{In-filter, filter-In}
-use Rattle.vlsi_model.proofs.Sorting.{different_names}
+use Rattle.vlsi_model.proofs.Sorting.{In-at, place_of_In, different_names}
 use Rattle.vlsi_model.proofs.Building.{map-then, map_same}
 use Rattle.vlsi_model.proofs.Assembly.{In-permutation}
-use Rattle.bit_machine.specs.System.{System, stored_bits, driven_bits, all_bits, IsSystem, Falls, FitsPorts}
+use Rattle.bit_machine.specs.System.{System, stored_bits, driven_bits, held_bits, all_bits, IsSystem, Falls, FitsPorts}
 use Rattle.bit_machine.proofs.Built.{All_In}
 use Rattle.net_flat.specs.declared.renaming.Seat.{Seat}
-use Rattle.net_flat.specs.Renamed.{seat_at, register_at, stored_of, driven_from, inner_name, inner_names, is_port, renamed_system, IsLongerThan, AreFree}
-use Rattle.net_flat.proofs.Lists.{name_left, name_right, names_between, names_whole, unmap_different}
+use Rattle.net_flat.specs.Renamed.{seat_at, register_at, stored_of, driven_from, inner_name, inner_names, is_port, new_names, renamed_system, IsLongerThan, AreFree}
+use Rattle.net_flat.proofs.Lists.{name_left, name_right, names_between, names_whole, unmap_different, rising_count}
 use Rattle.net_flat.proofs.Taking.{any_in, in_any}
 
 -- a machine, and other names for its registers, in their order

@@ -1,38 +1,47 @@
 -- The machine of a netlist, with the names of its instances for its registers.
-use Rattle.std.proofs.Common.{◌≡◌, ℕ, zero, suc, ◌+◌, ◌<◌, Bool, false, List, [], ◌∷◌, ◌++◌, map, length, replicate, Option, None, Some, refl, sym, ap, ◌∙◌, subst, arith}
+use Rattle.std.proofs.Common.{◌≡◌, ◌⊎◌, inl, inr, ℕ, zero, suc, ◌+◌, ◌<◌, Bool, true, false, List, [], ◌∷◌, ◌++◌, map, length, get_or, replicate, Option, None, Some, refl, sym, ap, ◌∙◌, subst, arith}
+use Rattle.std.specs.Prelude.{slice_index, ◌↔◌}
+use Rattle.std.specs.List.{flat_map}
+use Rattle.std.specs.List.Sorted.{IsPermutation}
 use Rattle.std.proofs.lemmas.List.{length-map, get_or-map}
 use Rattle.std.proofs.lemmas.List.Sorted.{IsPermutation-sym}
 use Rattle.vlsi_base.specs.declared.name.Name.{Name}
 use Rattle.vlsi_base.specs.declared.name.Port.{Port}
+use Rattle.vlsi_base.specs.Names.{scalar, vdd, vss}
 use Rattle.vlsi_base.specs.Range.{rising}
-use Rattle.vlsi_base.specs.Member.{In, here, there}
+use Rattle.vlsi_base.specs.Member.{In, here, there, AllDifferent}
 use Rattle.bool_expr.specs.Expression.{bit}
 use Rattle.machine_core.specs.Named.{value_at}
 use Rattle.machine_core.specs.Machine.{Machine, Register, inputs, names_of, register_names}
-use Rattle.machine_core.specs.Cycles.{Settles}
+use Rattle.machine_core.specs.Cycles.{Settles, next}
 use Rattle.machine_core.specs.Order.{SettlesOnce}
-use Rattle.machine_core.specs.Checked.{IsChecked}
+use Rattle.machine_core.specs.Checked.{IsChecked, IsNoSupply}
 use Rattle.machine_core.proofs.Values.{In-map}
 use Rattle.vlsi_model.specs.Numbered.{name_at}
 use Rattle.vlsi_model.specs.Laid.{inputs_of}
-use Rattle.vlsi_model.proofs.Members.{In-map_back}
+use Rattle.vlsi_model.proofs.Members.{In-map_back, different_append}
 use Rattle.vlsi_model.proofs.Bits.{In-rising, rising-In}
 use Rattle.vlsi_model.proofs.Sorting.{In-at, place_of_In}
 use Rattle.vlsi_model.proofs.Building.{map-then, map_same}
 use Rattle.vlsi_model.proofs.Assembly.{In-permutation}
 use Rattle.cell_model.specs.Cell.{Function, gate, flip_flop, other, opaque, Cell}
 use Rattle.cell_model.specs.Library.{Library, cell_of}
+use Rattle.cell_pins.specs.Table.{IsTableOf}
 use Rattle.net_core.specs.declared.pins.ModelPins.{ModelPins}
+use Rattle.net_core.specs.Places.{Stands, IsThere}
 use Rattle.net_core.specs.Netlist.{Instance, Netlist as InMemory}
 use Rattle.net_meaning.specs.Netlist.{Member, AbstractNetlist}
 use Rattle.net_meaning.specs.Behaviour.{Contents, Valuation, NetSettles, model_of, cell_at, net_next}
+use Rattle.net_right.specs.Condition.{MeetsCondition}
 use Rattle.net_right.specs.View.{IsSeenAs, member_of}
-use Rattle.net_machine.specs.Step.{held_in, held_at, held_by, FitsContents, zeros, zeros_of, no_contents, AreInStep, KeepsStep, IsMachineInOrder}
+use Rattle.net_machine.specs.Step.{held_in, held_at, held_by, FitsContents, zeros, zeros_of, no_contents, ShowAlike, AreInStep, KeepsStep, IsMachineOfNetlist, IsMachineInOrder, IsInOrderWith}
 use Rattle.net_machine.specs.Signals.{IsClockPort}
 use Rattle.net_machine.proofs.Drivers.{In_there}
+use Rattle.net_flat.specs.declared.parts.Part.{Part}
+use Rattle.net_flat.specs.declared.parts.Part.TheVariants as part
 use Rattle.net_flat.specs.Parts.{part_of, part_at, names_if, registers_of}
-use Rattle.net_flat.specs.Flat.{IsOther, IsPlain, held_by_name, IsFlat}
-use Rattle.net_flat.specs.Renamed.{IsRenamed}
+use Rattle.net_flat.specs.Flat.{IsOther, IsPlain, held_by_name, IsFlat, IsFlatWith}
+use Rattle.net_flat.specs.Renamed.{IsRenamed, ComesTo}
 
 -- ---- what instances hold
 

@@ -1,6 +1,7 @@
 -- What the instances of a netlist are, by a list of what its models are.
-use Rattle.std.proofs.Common.{◌≡◌, ℕ, ◌<◌, Bool, true, false, List, [], ◌∷◌, ◌++◌, map, length, get_or, Option, None, Some, refl, sym, ap, ◌∙◌, subst}
+use Rattle.std.proofs.Common.{◌≡◌, ℕ, ◌<◌, Bool, true, false, List, [], ◌∷◌, ◌++◌, map, length, get_or, Option, None, Some, refl, sym, ap, ◌∙◌, subst, arith}
 use Rattle.std.specs.Prelude.{slice_index_or}
+use Rattle.std.specs.List.{All, flat_map}
 use Rattle.std.proofs.lemmas.List.{length-map, get_or-map}
 use Rattle.std.proofs.lemmas.Option.{get_or_from_slice_get, slice_get_within}
 use Rattle.vlsi_base.specs.declared.name.Name.{Name}
@@ -10,15 +11,15 @@ use Rattle.vlsi_base.specs.Member.{In, here, there}
 use Rattle.vlsi_model.proofs.Sorting.{In-at, place_of_In}
 use Rattle.vlsi_model.proofs.Members.{In-map_back}
 use Rattle.vlsi_model.proofs.Naming.{same_default}
-use Rattle.cell_model.specs.Cell.{other, Cell}
+use Rattle.cell_model.specs.Cell.{Function, gate, flip_flop, other, opaque, Cell}
 use Rattle.cell_checks.specs.Checked.{library_of}
 use Rattle.cell_model.specs.Library.{Library, cell_of, cell_named}
 use Rattle.net_core.specs.declared.frame.Node.{Node}
-use Rattle.net_core.specs.Places.{Stands}
+use Rattle.net_core.specs.Places.{Stands, IsThere}
 use Rattle.net_core.specs.Frame.{instance_of}
 use Rattle.net_core.specs.Netlist.{Instance, Netlist as InMemory}
 use Rattle.net_core.proofs.Frames.{mapped, unmapped}
-use Rattle.net_machine.specs.Signals.{IsFirstOpaque}
+use Rattle.net_machine.specs.Signals.{HasBehaviour, IsFirstOpaque}
 use Rattle.net_machine.proofs.Knowing.{AreNodes, stands_of}
 use Rattle.net_flat.specs.declared.parts.Part.{Part}
 use Rattle.net_flat.specs.declared.parts.Part.TheVariants as part

@@ -1,25 +1,34 @@
 -- The names of a netlist's registers.
-use Rattle.std.proofs.Common.{◌≡◌, ◌⊎◌, inl, inr, ℕ, suc, List, [], ◌∷◌, map, refl, sym, ap, ◌∙◌, subst, arith}
+use Rattle.std.proofs.Common.{◌≡◌, ◌≢◌, ◌⊎◌, inl, inr, ℕ, zero, suc, ◌<◌, List, [], ◌∷◌, ◌++◌, map, length, get_or, Option, None, Some, refl, sym, ap, ◌∙◌, subst, arith}
 use Rattle.std.specs.Prelude.{codes, not}
+use Rattle.std.proofs.lemmas.List.{length-map}
+use Rattle.std.proofs.lemmas.Option.{get_or_from_slice_get, slice_get_within}
 use Rattle.vlsi_base.specs.declared.name.Name.{Name}
 use Rattle.vlsi_base.specs.declared.name.Port.{Port}
+use Rattle.vlsi_base.specs.declared.name.Terminal.{Terminal}
 use Rattle.vlsi_base.specs.Name.{is_supply}
 use Rattle.vlsi_base.specs.Names.{scalar, vdd, vss}
 use Rattle.vlsi_base.specs.Member.{In, here, there, AllDifferent}
 use Rattle.machine_core.specs.Machine.{Machine}
-use Rattle.machine_core.proofs.Values.{In-split, In-map}
-use Rattle.vlsi_model.proofs.Members.{different_append}
+use Rattle.machine_core.specs.Checked.{IsChecked, IsNoSupply}
+use Rattle.machine_core.proofs.Values.{In-split, In-left, In-right, In-map}
+use Rattle.vlsi_model.proofs.Members.{In-map_back, different_append}
 use Rattle.vlsi_model.proofs.PortBits.{In-filter}
+use Rattle.vlsi_model.proofs.Sorting.{In-at, place_of_In}
 use Rattle.cell_model.specs.Library.{Library, cell_of}
+use Rattle.cell_pins.specs.Table.{IsTableOf}
 use Rattle.net_core.specs.declared.pins.ModelPins.{ModelPins}
-use Rattle.net_core.specs.Places.{NoneTwice}
+use Rattle.net_core.specs.Places.{Stands, IsThere, NoneTwice}
 use Rattle.net_core.specs.Netlist.{Instance, Netlist as InMemory, IsNetlist, port}
+use Rattle.net_meaning.specs.Netlist.{AbstractNetlist}
+use Rattle.net_meaning.specs.Behaviour.{Contents}
 use Rattle.net_right.specs.Condition.{MeetsCondition}
-use Rattle.net_right.specs.View.{netlist_by}
-use Rattle.net_machine.specs.Signals.{MeetsConditionWith}
-use Rattle.net_machine.specs.Step.{IsMachineInOrder, IsInOrderWith}
+use Rattle.net_right.specs.View.{IsSeenAs, netlist_by}
+use Rattle.net_machine.specs.Signals.{signal_ports, MeetsConditionWith}
+use Rattle.net_machine.specs.Step.{KeepsStep, IsMachineInOrder, IsInOrderWith}
 use Rattle.net_machine.proofs.Drivers.{In_there}
 use Rattle.net_machine.proofs.Clocks.{port_place}
+use Rattle.net_machine.proofs.Knowing.{stands_of}
 use Rattle.net_machine.proofs.Made.{class_by, class_by_is}
 use Rattle.net_flat.specs.declared.parts.Part.{Part}
 use Rattle.net_flat.specs.declared.parts.Part.TheVariants as part

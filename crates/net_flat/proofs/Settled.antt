@@ -1,37 +1,40 @@
 -- A machine and the machine of its bits with other names settle alike.
-use Rattle.std.proofs.Common.{◌≡◌, inl, inr, ℕ, zero, suc, ◌+◌, ◌<◌, Bool, true, false, cond, not, List, [], ◌∷◌, ◌++◌, map, length, get_or, take, drop, filter, Option, None, Some, refl, sym, ap, ◌∙◌, subst, arith, append_assoc, length-append}
+use Rattle.std.proofs.Common.{◌≡◌, ◌⊎◌, inl, inr, ℕ, zero, suc, ◌+◌, ◌<◌, ◌≤◌, Bool, true, false, cond, not, List, [], ◌∷◌, ◌++◌, map, length, get_or, take, drop, filter, Option, None, Some, refl, sym, ap, ◌∙◌, subst, arith, append_assoc, length-append}
+use Rattle.std.specs.Prelude.{slice_index}
 use Rattle.std.specs.List.Sorted.{IsPermutation}
-use Rattle.std.proofs.lemmas.List.{length-map, get_or-map, get_or-take}
+use Rattle.std.proofs.lemmas.List.{length-map, map-append, get_or-map, get_or-take, length-drop}
 use Rattle.std.proofs.lemmas.List.Sorted.{IsPermutation-map}
 use Rattle.vlsi_base.specs.declared.name.Name.{Name}
 use Rattle.vlsi_base.specs.declared.name.Port.{Port}
 use Rattle.vlsi_base.specs.declared.name.Dir.{Dir}
 use Rattle.vlsi_base.specs.declared.name.Dir.TheVariants as dir
 use Rattle.vlsi_base.specs.Range.{rising}
-use Rattle.vlsi_base.specs.Member.{In, here, there}
+use Rattle.vlsi_base.specs.Member.{In, here, there, AllDifferent}
 use Rattle.bool_expr.specs.Expression.{constant, bit, val}
-use Rattle.machine_core.specs.Named.{value_at}
-use Rattle.machine_core.specs.Machine.{Machine, Equation, Register, is_input, is_clock, names_of, inputs, input_ports, register_names}
+use Rattle.machine_core.specs.Named.{value_at, values_at, is_same_name}
+use Rattle.machine_core.specs.Machine.{Machine, Equation, Register, is_input, is_clock, names_of, inputs, input_ports, outputs, register_names}
 use Rattle.machine_core.specs.Cycles.{Settles, next}
 use Rattle.machine_core.specs.Order.{held_names, equation_names}
+use Rattle.machine_core.specs.Checked.{IsChecked}
 use Rattle.machine_core.proofs.Names.{same_name-true, same_name-false}
 use Rattle.machine_core.proofs.Values.{In-map, bit-value_at}
 use Rattle.source_bits.specs.Driven.{Numbered, NumberedStorage}
 use Rattle.vlsi_model.specs.Numbered.{name_at}
 use Rattle.vlsi_model.proofs.Members.{In-cases, In-map_back}
-use Rattle.vlsi_model.proofs.PortBits.{filter-In}
+use Rattle.vlsi_model.proofs.PortBits.{In-filter, filter-In}
 use Rattle.vlsi_model.proofs.Sorting.{place_of_In}
 use Rattle.vlsi_model.proofs.Building.{map-then, map_same}
 use Rattle.net_core.specs.Places.{Stands}
-use Rattle.bit_machine.specs.System.{BitsSettle, bits_next, bits_shown, IsMachineOfBits}
+use Rattle.bit_machine.specs.System.{System, stored_bits, BitsSettle, bits_next, bits_shown, IsMachineOfBits}
 use Rattle.bit_machine.proofs.Showing.{shown_at}
+use Rattle.bit_machine.proofs.Built.{All_In}
 use Rattle.net_machine.proofs.Local.{machine_equation, settled_pieces}
 use Rattle.net_machine.proofs.Places.{bits_between, bit_right}
 use Rattle.net_machine.proofs.Knowing.{stands_of}
 use Rattle.net_flat.specs.declared.renaming.Seat.{Seat}
-use Rattle.net_flat.specs.Renamed.{seat_at, register_at, stored_of, driven_from, inner_name, inner_names, is_port, IsRenamed, ComesTo}
-use Rattle.net_flat.proofs.Lists.{name_left, name_right}
-use Rattle.net_flat.proofs.Bits.{Setting, system, ins, regs, eqs, inner, names_count, vars_count, held_count, seat_is, seat_bit, stored_are, seats_named, output_kept, port_kept}
+use Rattle.net_flat.specs.Renamed.{seat_at, register_at, stored_of, driven_from, inner_name, inner_names, is_port, IsRenamed, ComesTo, AreRenamed, AreFree}
+use Rattle.net_flat.proofs.Lists.{name_left, name_right, names_whole}
+use Rattle.net_flat.proofs.Bits.{Setting, system, ins, regs, eqs, inner, names_count, vars_count, held_count, equations_count, seat_is, seat_bit, stored_are, seats_named, output_kept, port_kept, clock_apart}
 
 -- the equations' bits, one by one
 record IsDrivenAt (k : ℕ) (es : List Equation) (d : Numbered) : Type 0 where

@@ -1,6 +1,7 @@
 -- The machine's names can be written where the netlist's can.
-use Rattle.std.proofs.Common.{◌≡◌, ℕ, zero, suc, ◌+◌, ◌<◌, Bool, true, false, cond, not, List, [], ◌∷◌, length, get_or, filter, Option, None, Some, refl, sym, ap, ◌∙◌, subst, arith}
-use Rattle.std.specs.Prelude.{slice_get}
+use Rattle.std.proofs.Common.{◌≡◌, ◌≢◌, ℕ, zero, suc, ◌+◌, ◌<◌, Bool, true, false, cond, not, List, [], ◌∷◌, map, length, get_or, filter, Option, None, Some, refl, sym, ap, ◌∙◌, subst, arith}
+use Rattle.std.specs.Prelude.{slice_get, IsTrue}
+use Rattle.std.specs.List.{All}
 use Rattle.std.specs.Ordering.{nat_cmp, is_lt, ordering_then, ordering_reverse, is_eq}
 use Rattle.std.specs.Cmp.Lexicographic.{slice_cmp}
 use Rattle.std.specs.declared.cmp.Ordering.{Ordering}
@@ -10,28 +11,32 @@ use Rattle.std.proofs.lemmas.Map.Text.{is_eq-slice_cmp}
 use Rattle.vlsi_base.specs.declared.name.Name.{Name}
 use Rattle.vlsi_base.specs.declared.name.Port.{Port}
 use Rattle.vlsi_base.specs.Name.{name_cmp, bit_cmp, is_supply}
-use Rattle.vlsi_base.specs.Names.{comes_before}
-use Rattle.vlsi_base.specs.Member.{In, here}
+use Rattle.vlsi_base.specs.Names.{scalar, comes_before}
+use Rattle.vlsi_base.specs.Member.{In, here, there}
 use Rattle.machine_core.specs.Machine.{Machine, Register, register_names}
 use Rattle.machine_core.specs.Checked.{IsChecked, AreInOrder}
 use Rattle.machine_core.proofs.Values.{In-map}
 use Rattle.net_core.proofs.Lookups.{same_of}
 use Rattle.vlsi_model.proofs.Members.{In-map_back}
 use Rattle.vlsi_model.proofs.PortBits.{In-filter}
-use Rattle.vlsi_model.proofs.Sorting.{In-at}
+use Rattle.vlsi_model.proofs.Sorting.{In-at, place_of_In}
 use Rattle.vlsi_model.proofs.Assembly.{All-from_In}
 use Rattle.cell_pins.proofs.Ports.{before_less, before_itself, Sorted, sorted_of}
 use Rattle.text_names.specs.Words.{IsIdentifier, GoesOn}
 use Rattle.cell_model.specs.Library.{Library}
+use Rattle.cell_model.specs.Cell.{Function}
+use Rattle.net_core.specs.Places.{IsThere}
 use Rattle.net_core.specs.Netlist.{Instance, Netlist as InMemory, IsNetlist}
 use Rattle.net_right.specs.Writable.{CanBeAnInstance, CanBeNamed}
 use Rattle.vbe_print.specs.Written.{as_port, as_ports}
-use Rattle.vbe_print.specs.Writable.{AreDeclared}
+use Rattle.vbe_print.specs.Writable.{AreDeclared, CanBeVbe}
 use Rattle.bit_machine.proofs.Built.{All_In}
 use Rattle.net_machine.specs.Signals.{signal_ports}
-use Rattle.net_flat.specs.Parts.{registers_of}
-use Rattle.net_flat.specs.Flat.{AreApart, CanBeText, NamedHasWords}
-use Rattle.net_flat.proofs.Naming.{register_is, text_of_port}
+use Rattle.net_flat.specs.declared.parts.Part.{Part}
+use Rattle.net_flat.specs.declared.parts.Part.TheVariants as part
+use Rattle.net_flat.specs.Parts.{part_at, names_if, registers_of}
+use Rattle.net_flat.specs.Flat.{HasText, AreApart, HasScalarClock, HasWords, CanBeText, NamedHasWords}
+use Rattle.net_flat.proofs.Naming.{IsRegister, register_is, text_of_port}
 
 -- ---- ports of one text stand behind one another
 

@@ -1,6 +1,8 @@
 -- Of a text one answer is right.
-use Rattle.std.proofs.Common.{◌≡◌, false, [], ◌∷◌, inl, inr, refl, ap, sym, ◌∙◌}
+use Rattle.std.proofs.Common.{◌≡◌, false, [], ◌∷◌, ◌⊎◌, inl, inr, refl, ap, sym, ◌∙◌, Ok, Err}
+use Rattle.vlsi_base.specs.declared.fault.ReadError.{ReadError}
 use Rattle.vhdl_token.specs.declared.keyword.Keyword.TheVariants as word
+use Rattle.vhdl_token.specs.declared.token.Tokens.{Tokens}
 use Rattle.grammar_theory.specs.declared.form.Form.TheVariants as form
 use Rattle.grammar_theory.specs.declared.limits.TheConstants.{DEPTH}
 use Rattle.grammar_theory.specs.declared.refusal.Refusal.{Refusal}
@@ -9,7 +11,8 @@ use Rattle.grammar_theory.specs.Unique.{OneAnswerToAll}
 use Rattle.grammar_theory.proofs.Unique as unique
 use Rattle.vhdl_front.specs.Front.{error_of}
 use Rattle.vhdl_front.proofs.Language.{numbers}
-use Rattle.vbe_text.specs.Vbe.{vbe}
+use Rattle.vbe_text.specs.Source.{SourceTree}
+use Rattle.vbe_text.specs.Vbe.{vbe, IsSource, RefusedAs}
 use Rattle.vbe_text.specs.VbeReading.{source_at}
 use Rattle.vbe_text.specs.Laws.{EachSource, OneSource, NeverBothSource, OneRefusedSource}
 use Rattle.vbe_text.proofs.VbeLanguage.{exact_source, source_answers}

@@ -1,23 +1,30 @@
 -- From reading to what the grammar says of a whole text.
-use Rattle.std.proofs.Common.{◌≡◌, Bool, true, false, cond, ◌||◌, List, [], ◌∷◌, refl, sym, subst, Ok, Err}
+use Rattle.std.proofs.Common.{◌≡◌, ℕ, Bool, true, false, cond, ◌||◌, List, [], ◌∷◌, ◌++◌, length, refl, sym, ap, subst, ◌∙◌, Ok, Err}
+use Rattle.std.proofs.lemmas.List.{append-nil}
 use Rattle.vlsi_base.specs.declared.fault.ReadError.{ReadError}
 use Rattle.vlsi_base.specs.declared.fault.ReadError.TheVariants as errors
+use Rattle.vhdl_token.specs.declared.keyword.Keyword.TheVariants as word
 use Rattle.vhdl_token.specs.declared.token.PlacedToken.{PlacedToken}
 use Rattle.vhdl_token.specs.declared.token.Tokens.{Tokens}
 use Rattle.grammar_theory.specs.declared.form.Form.{Form}
+use Rattle.grammar_theory.specs.declared.form.Form.TheVariants as form
 use Rattle.grammar_theory.specs.declared.limits.TheConstants.{DEPTH}
 use Rattle.grammar_theory.specs.declared.refusal.Refusal.{Refusal}
 use Rattle.grammar_theory.specs.declared.refusal.Stop.{Stop}
 use Rattle.grammar_theory.specs.declared.refusal.Stop.TheVariants as stop
 use Rattle.grammar_theory.specs.Tokens.{code, is_of, is_at, among}
+use Rattle.grammar_theory.specs.Marks.{Item}
 use Rattle.grammar_theory.specs.Outcome.{At, Outcome, Fails, start, finish}
-use Rattle.grammar_theory.specs.Answers.{Rejects, AnswersAll}
+use Rattle.grammar_theory.specs.Answers.{Rejects, AnswersAll, tokens_of}
 use Rattle.grammar_theory.proofs.End.{answers_all}
+use Rattle.grammar_theory.proofs.Levels.{agree, cancel}
+use Rattle.vhdl_front.specs.Cursor.{names_of}
 use Rattle.vhdl_front.specs.Front.{error_of, OrMemory, Becomes}
+use Rattle.vhdl_front.proofs.Language.{numbers}
 use Rattle.vbe_text.specs.Source.{SourceTree}
 use Rattle.vbe_text.specs.Vbe.{vbe, IsSource, IsRefusedSource}
 use Rattle.vbe_text.specs.VbeReading.{source_at}
-use Rattle.vbe_text.proofs.VbeLanguage.{source_answers}
+use Rattle.vbe_text.proofs.VbeLanguage.{exact_source, source_answers}
 
 pub among_two : (f g : Form) (ts : List PlacedToken) → among (code f ∷ code g ∷ []) ts ≡ is_at f ts || is_at g ts
 among_two f g [] = refl

@@ -1,6 +1,6 @@
 // Reading assertions, assignments and blocks.
-ghost use Rattle.std.specs.Prelude.{map};
-ghost use Rattle.vlsi_base.specs.Tree.{operand_of};
+ghost use Rattle.std.specs.Prelude.{◌≡◌, map};
+ghost use Rattle.vlsi_base.specs.Tree.{view, operand_of};
 ghost use Rattle.grammar_theory.specs.Outcome.{Gives};
 ghost use Rattle.vbe_text.specs.Source.{assignment_view, statement_view};
 ghost use Rattle.vbe_text.specs.VbeReading.{report_at, severity_at, remarks_at, assertion_at, assignment_at, guarded_assignment_at, guarded_list_at, guarded_assignments_at, guard_at, repeated_at, block_at};

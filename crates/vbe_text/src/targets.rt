@@ -1,4 +1,5 @@
 // Reading targets of assignments.
+ghost use Rattle.std.specs.Prelude.{◌≡◌};
 ghost use Rattle.grammar_theory.specs.Outcome.{Gives};
 ghost use Rattle.vbe_text.specs.VbeReading.{range_at, selected_at, selecting_at, target_behind_at, target_at};
 

@@ -24,7 +24,7 @@ use Rattle.grammar_theory.proofs.Bundle.{Exact, exact_nothing, exact_one, exact_
 use Rattle.grammar_theory.proofs.Many.{exact_list}
 use Rattle.grammar_theory.proofs.Listing.{consumes}
 use Rattle.vhdl_front.specs.Cursor.{name_of}
-use Rattle.vhdl_front.specs.Entity.{Names, new_name, identifier, declared, declared_here, another, led_names, own_names, names, width, bounds, range, scalar, vector, port_type, registered, signal_type, default, generic, next_generic, closed, generic_clause, one_mode, port_mode, bus, port_behind, port, next_port, port_clause, entity_head, ending, entity, signal, declarations}
+use Rattle.vhdl_front.specs.Entity.{Names, Moded, new_name, identifier, declared, declared_here, another, led_names, own_names, names, width, bounds, range, scalar, vector, port_type, registered, signal_type, default, generic, next_generic, closed, generic_clause, one_mode, port_mode, bus, port_behind, port, next_port, port_clause, entity_head, ending, entity, signal, declarations}
 use Rattle.vhdl_front.specs.EntityReading.{identifier_at, declared_at, declared_here_at, another_at, led_names_at, own_names_at, names_at, bounds_at, range_at, scalar_at, vector_at, port_type_at, register_at, registered_at, signal_type_at, given_at, default_at, generic_at, next_generic_at, closed_at, generics_at, generic_clause_at, optional_generics_at, one_mode_at, port_mode_at, taken_bus_at, bus_at, port_behind_at, port_at, next_port_at, ports_at, port_clause_at, entity_head_at, stop_at, repeated_at, ending_at, entity_at, signal_at, signals_at, declarations_at}
 use Rattle.vhdl_front.proofs.Language.{numbers, exact_number, exact_direction}
 

@@ -1,5 +1,5 @@
 -- Each reader reads its grammar.
-use Rattle.std.proofs.Common.{◌++◌, ◌≡◌, ℕ, ◌+◌, true, false, List, [], ◌∷◌, codes, refl}
+use Rattle.std.proofs.Common.{◌++◌, ◌≡◌, ℕ, zero, suc, ◌<◌, ◌+◌, Bool, true, false, List, [], ◌∷◌, codes, refl, Err, arith}
 use Rattle.vlsi_base.specs.declared.expression.Operator.{Operator}
 use Rattle.vlsi_base.specs.declared.expression.Operator.TheVariants as operation
 use Rattle.vlsi_base.specs.declared.radix.Radix.TheVariants as radix
@@ -8,12 +8,14 @@ use Rattle.vhdl_token.specs.declared.keyword.Keyword.TheVariants as word
 use Rattle.vhdl_token.specs.declared.token.Sign.TheVariants as sign
 use Rattle.grammar_theory.specs.declared.form.Form.{Form}
 use Rattle.grammar_theory.specs.declared.form.Form.TheVariants as form
+use Rattle.grammar_theory.specs.declared.refusal.Breach.TheVariants as broken
 use Rattle.grammar_theory.specs.Tokens.{code}
 use Rattle.grammar_theory.specs.Marks.{opens, operator, spells}
-use Rattle.grammar_theory.specs.Grammar.{Grammar}
+use Rattle.grammar_theory.specs.Grammar.{Grammar, none, nothing}
 use Rattle.grammar_theory.specs.Outcome.{Reader}
 use Rattle.grammar_theory.proofs.Sets.{Set, disjoint}
-use Rattle.grammar_theory.proofs.Bundle.{Exact, exact_nothing, exact_one, exact_marked, exact_then, exact_behind, within}
+use Rattle.grammar_theory.proofs.Exact.{Shape}
+use Rattle.grammar_theory.proofs.Bundle.{Exact, exact_nothing, exact_one, exact_marked, exact_then, exact_either, exact_behind, within, none_shape}
 use Rattle.grammar_theory.proofs.Many.{exact_list}
 use Rattle.vhdl_front.specs.Cursor.{name_of, number_of, bit_of, digits_of, radix_of}
 use Rattle.vhdl_front.specs.Expression.{number, closing, direction, slice_of, places, suffix, named, bit_literal, text_literal, string_literal, parenthesized, primary, factor, joined, cat, pair, chain, relation, logical, expression_over}

@@ -1,15 +1,17 @@
 -- The same for expressions in parentheses, however deep.
-use Rattle.std.proofs.Common.{◌≡◌, ℕ, zero, suc, ◌+◌, ◌<◌, true, false, List, [], ◌∷◌, ◌++◌, length, inr, refl, Ok, Err, arith}
+use Rattle.std.proofs.Common.{◌≡◌, ℕ, zero, suc, ◌+◌, ◌<◌, true, false, List, [], ◌∷◌, ◌++◌, length, inl, inr, refl, Result, Ok, Err, arith}
 use Rattle.vlsi_base.specs.Tree.{Tree, name}
+use Rattle.vhdl_token.specs.declared.keyword.Keyword.TheVariants as word
 use Rattle.vhdl_token.specs.declared.token.Sign.TheVariants as sign
+use Rattle.vhdl_token.specs.declared.token.PlacedToken.{PlacedToken}
 use Rattle.grammar_theory.specs.declared.form.Form.{Form}
 use Rattle.grammar_theory.specs.declared.form.Form.TheVariants as form
 use Rattle.grammar_theory.specs.declared.refusal.Breach.TheVariants as broken
 use Rattle.grammar_theory.specs.declared.refusal.Reason.TheVariants as reason
 use Rattle.grammar_theory.specs.Tokens.{code}
 use Rattle.grammar_theory.specs.Marks.{Item, State, plain, opens, step}
-use Rattle.grammar_theory.specs.Grammar.{Grammar, none, item, Then}
-use Rattle.grammar_theory.specs.Outcome.{At, Reader, refusal, ◌>>=◌}
+use Rattle.grammar_theory.specs.Grammar.{Grammar, none, item, Then, at_some}
+use Rattle.grammar_theory.specs.Outcome.{At, Outcome, Reader, refusal, ◌>>=◌}
 use Rattle.grammar_theory.specs.Answers.{Answers}
 use Rattle.grammar_theory.proofs.Sets.{Set, disjoint}
 use Rattle.grammar_theory.proofs.Exact.{Shape}
@@ -20,8 +22,8 @@ use Rattle.grammar_theory.proofs.Levels.{Rising, all_answers}
 use Rattle.grammar_theory.proofs.AllLevels.{exact_all}
 use Rattle.grammar_theory.proofs.Listing.{consumes}
 use Rattle.vhdl_front.specs.Expression.{closing, suffix, named, parenthesized, primary, factor, joined, cat, relation, logical, expression_over, less, nested, expression}
-use Rattle.vhdl_front.specs.Reading.{closing_at, factor_at, joined_at, relation_at, enter_at, expression_at}
-use Rattle.vhdl_front.proofs.Language.{Enters, exact_closing, exact_factor, exact_joined, exact_relation, exact_expression_over, factor_firsts, expression_lasts}
+use Rattle.vhdl_front.specs.Reading.{closing_at, factor_at, joined_at, cat_at, relation_at, expression_over_at, enter_at, expression_at}
+use Rattle.vhdl_front.proofs.Language.{numbers, Enters, exact_closing, exact_factor, exact_joined, exact_cat, exact_relation, exact_expression_over, factor_firsts, expression_lasts}
 
 -- what stands in parentheses
 abbrev below : ℕ → ℕ → Grammar Tree

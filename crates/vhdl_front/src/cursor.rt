@@ -1,5 +1,5 @@
 // Taking tokens, with what each does beside standing in its place.
-ghost use Rattle.std.specs.Prelude.{◌≡◌, ◌∷◌, ◌<◌, ◌+◌, ◌-◌, ◌*◌, ◌^◌, min, Ok, IfOk, OnOk, IfErr, true, false, nat_lt, length};
+ghost use Rattle.std.specs.Prelude.{◌≡◌, ◌∷◌, ◌<◌, ◌+◌, ◌-◌, ◌*◌, ◌^◌, min, Ok, IfOk, OnOk, IfErr, IsTrue, true, false, nat_lt, length, option_copied};
 ghost use Rattle.vhdl_token.specs.declared.token.PlacedToken.{PlacedToken};
 ghost use Rattle.grammar_theory.specs.Tokens.{is_of, is_at};
 ghost use Rattle.grammar_theory.specs.Marks.{Mark, State, starts, chooses, again, opens, operator, declares, enters, counts, spells, fits, step};

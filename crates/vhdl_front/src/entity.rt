@@ -1,5 +1,5 @@
 // Reading entities and declarations of signals.
-ghost use Rattle.std.specs.Prelude.{◌≡◌, ◌+◌, ◌-◌, ◌^◌, ◌≤◌, ◌∷◌, []};
+ghost use Rattle.std.specs.Prelude.{◌≡◌, ◌+◌, ◌-◌, ◌*◌, ◌^◌, ◌≤◌, ◌∷◌, [], length, min};
 ghost use Rattle.grammar_theory.specs.Tokens.{code};
 ghost use Rattle.grammar_theory.specs.Outcome.{Gives, list_at, with_front};
 ghost use Rattle.vhdl_front.specs.Entity.{width as width_of};

@@ -1,5 +1,5 @@
 // Reading expressions.
-ghost use Rattle.std.specs.Prelude.{◌≡◌, ◌∷◌, [], map, MatchResult};
+ghost use Rattle.std.specs.Prelude.{◌≡◌, ◌∷◌, [], ℕ, map, MatchResult};
 ghost use Rattle.vlsi_base.specs.Tree.{view, binary, folded, operand_of};
 ghost use Rattle.grammar_theory.specs.Tokens.{code};
 ghost use Rattle.grammar_theory.specs.Outcome.{Gives, list_at, with_front};

@@ -1,23 +1,25 @@
 -- Each token of a structural text that is laid out is read again where it stands; so the text is a sentence.
-use Rattle.std.proofs.Common.{◌≡◌, ℕ, ◌-◌, false, List, [], ◌∷◌, ◌++◌, map, Option, None, Some, Ok, refl, sym, subst, arith}
+use Rattle.std.proofs.Common.{◌≡◌, ℕ, ◌-◌, ◌^◌, ◌<◌, ◌==◌, true, false, not, ◌&&◌, List, [], ◌∷◌, ◌++◌, map, Option, None, Some, Ok, refl, sym, subst, arith, slice_index}
 use Rattle.std.specs.List.{All}
 use Rattle.std.proofs.lemmas.List.Elements.{All-head, All-tail}
 use Rattle.vlsi_base.specs.declared.name.Name.{Name}
 use Rattle.vhdl_token.specs.Keyword.{keyword_of}
+use Rattle.vhdl_token.specs.declared.keyword.Keyword.TheVariants as word
 use Rattle.vhdl_token.specs.declared.token.Sign.TheVariants as sign
 use Rattle.vhdl_token.specs.declared.token.PlacedToken.{PlacedToken}
 use Rattle.vhdl_lexer.specs.Listing.{tokens_in, refusal_in}
 use Rattle.grammar_theory.specs.declared.limits.TheConstants.{DEPTH}
-use Rattle.grammar_theory.specs.Marks.{uncounted}
+use Rattle.grammar_theory.specs.Marks.{State, uncounted}
 use Rattle.grammar_theory.specs.Outcome.{start}
 use Rattle.grammar_theory.specs.Answers.{AnswersAll}
-use Rattle.spell_theory.specs.Layout.{gap, turn, text_of, placed}
+use Rattle.spell_theory.specs.Layout.{Written, gap, turn, text_of, placed}
 use Rattle.spell_theory.proofs.Layouts.{first_byte, cut_again}
 use Rattle.spell_theory.proofs.Combinators.{accepts_all}
-use Rattle.vhdl_print.specs.Outline.{OnePort, Outline, a_sign, a_name, port_layout, ports_layout, entity_layout}
+use Rattle.vhdl_print.specs.Outline.{OnePort, Outline, a_word, a_sign, a_name, port_layout, ports_layout, entity_layout}
 use Rattle.vhdl_print.specs.EntityAgain.{IsName, CanBeAPort, CanBeWritten}
 use Rattle.vhdl_print.proofs.VhdlLexer.{vhdl, Fit, fit_both}
 use Rattle.vhdl_print.proofs.Again.{EndsWord, fit_port, fit_ports, fit_entity}
+use Rattle.vst_text.specs.declared.file.StructuralFile.{StructuralFile}
 use Rattle.vst_text.specs.Vst.{vst, IsStructure}
 use Rattle.vst_print.specs.Structure.{Mapping, OneInstance, Structure, architecture_name, bit_layout, name_layout, component_end, component_layout, components_layout, signal_layout, signals_layout, mapping_layout, mappings_layout, instance_end, instance_layout, instances_layout, head_layout, begin_layout, last_layout, structure_layout}
 use Rattle.vst_print.specs.Says.{IsSmall}

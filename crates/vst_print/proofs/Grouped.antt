@@ -1,5 +1,5 @@
 -- Ports in the order of names, in groups: which ports these are, how many bits they have, and that their texts differ.
-use Rattle.std.proofs.Common.{◌≡◌, ℕ, suc, ◌+◌, ◌-◌, ◌≤◌, Bool, true, false, cond, nat_le, List, [], ◌∷◌, ◌++◌, map, length, Option, None, Some, bytes_eq, refl, sym, ap, subst, ◌∙◌, append-nil, length-append, arith}
+use Rattle.std.proofs.Common.{◌≡◌, ℕ, zero, suc, ◌+◌, ◌-◌, ◌<◌, ◌≤◌, Bool, true, false, cond, nat_eq, nat_le, List, [], ◌∷◌, ◌++◌, map, length, Option, None, Some, bytes_eq, refl, sym, ap, subst, ◌∙◌, append-nil, append_assoc, length-append, arith, IsTrue, AllPairs}
 use Rattle.std.specs.List.{All, flat_map}
 use Rattle.std.specs.Ordering.{nat_cmp, is_lt, ordering_then}
 use Rattle.std.specs.declared.cmp.Ordering.{Ordering}
@@ -14,6 +14,7 @@ use Rattle.vlsi_base.specs.declared.name.Name.{Name}
 use Rattle.vlsi_base.specs.declared.name.Port.{Port}
 use Rattle.vlsi_base.specs.declared.name.Dir.{Dir}
 use Rattle.vlsi_base.specs.Name.{name_cmp, bit_cmp}
+use Rattle.vlsi_base.specs.Names.{comes_before}
 use Rattle.vlsi_base.specs.Range.{rising}
 use Rattle.vlsi_base.proofs.Ranges.{length_of_rising}
 use Rattle.vhdl_print.specs.Outline.{Bounds, OnePort, port_bits}

@@ -1,22 +1,22 @@
 -- Names of signals, of components and of instances: they are words, and they differ.
-use Rattle.std.proofs.Common.{◌≡◌, ℕ, zero, suc, ◌+◌, ◌-◌, ◌<◌, ◌≤◌, ◌^◌, Bool, true, false, not, cond, List, [], ◌∷◌, map, length, take, filter, None, Some, bytes_eq, slice_index, get_or, refl, sym, ap, ◌∙◌, arith, codes}
+use Rattle.std.proofs.Common.{◌≡◌, ℕ, zero, suc, ◌+◌, ◌-◌, ◌<◌, ◌≤◌, ◌^◌, Bool, true, false, not, cond, ◌&&◌, List, [], ◌∷◌, ◌++◌, map, length, take, drop, filter, Option, None, Some, bytes_eq, slice_index, get_or, refl, sym, ap, subst, ◌∙◌, arith, codes}
 use Rattle.std.specs.List.{All, list_all}
 use Rattle.std.specs.Char.{is_ascii_digit}
 use Rattle.std.specs.Fmt.{decimal}
 use Rattle.std.proofs.lemmas.Bool.{and_parts}
 use Rattle.std.proofs.lemmas.Fmt.{length-decimal-le}
 use Rattle.std.proofs.lemmas.Option.{slice_get-get_or}
-use Rattle.std.proofs.lemmas.List.Elements.{All-head, All-tail, All-cons, All-nil, All-filter, All-take, All-map, All-weaker, filter_passes}
+use Rattle.std.proofs.lemmas.List.Elements.{All-head, All-tail, All-cons, All-nil, All-filter, All-take, All-map, All-weaker, All-append, filter_passes}
 use Rattle.vlsi_base.specs.declared.name.Port.{Port}
 use Rattle.vlsi_base.specs.Range.{rising}
 use Rattle.vhdl_token.specs.declared.keyword.Keyword.{Keyword}
 use Rattle.vhdl_token.specs.Keyword.{keyword_text, keyword_among, keyword_of, keywords}
-use Rattle.spell_theory.specs.Words.{is_in_small_word}
+use Rattle.spell_theory.specs.Words.{is_in_small_word, IsSmallWord}
 use Rattle.spell_theory.proofs.Letters.{by_bytes, small_digit, all_implied, both, decimal_is}
 use Rattle.vhdl_print.specs.EntityAgain.{IsName}
 use Rattle.net_core.specs.Places.{Stands, NoneTwice}
 use Rattle.net_core.proofs.Lookups.{same_of, itself}
-use Rattle.net_right.specs.Writable.{IsIdentifier}
+use Rattle.net_right.specs.Writable.{is_word, IsIdentifier}
 use Rattle.vst_print.specs.Groups.{Group, group_of, led_by, grouped}
 use Rattle.vst_print.specs.Nets.{signal_text, is_free, signal_numbers}
 use Rattle.vst_print.specs.Written.{each_once}

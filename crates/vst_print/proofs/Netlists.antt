@@ -1,9 +1,11 @@
 -- The text of a netlist can be laid out.
-use Rattle.std.proofs.Common.{◌≡◌, ℕ, zero, suc, ◌+◌, ◌-◌, ◌<◌, ◌≤◌, ◌^◌, Bool, true, false, not, cond, nat_eq, List, [], ◌∷◌, ◌++◌, map, length, take, drop, Some, bytes_eq, slice_index, get_or, refl, sym, ap, subst, ◌∙◌, arith, codes, map-id, length-append, length-drop}
+use Rattle.std.proofs.Common.{◌≡◌, ℕ, zero, suc, ◌+◌, ◌-◌, ◌<◌, ◌≤◌, ◌^◌, Bool, true, false, not, cond, ◌&&◌, nat_eq, List, [], ◌∷◌, ◌++◌, map, length, take, drop, Option, None, Some, bytes_eq, slice_index, get_or, refl, sym, ap, subst, ◌∙◌, arith, codes, map-id, length-append, length-take, length-drop, append-nil}
 use Rattle.std.specs.List.{All, list_all, flat_map}
+use Rattle.std.proofs.lemmas.Bool.{and_parts}
 use Rattle.std.proofs.lemmas.List.{length-map, length-take-le}
 use Rattle.std.proofs.lemmas.List.Elements.{All-head, All-tail, All-cons, All-nil, All-map, All-weaker, All-append, All-take, All-drop, All-get_or}
 use Rattle.std.proofs.lemmas.List.Sums.{AllPass-from_list_all}
+use Rattle.std.proofs.lemmas.Option.{slice_get_within, get_or_from_slice_get}
 use Rattle.vlsi_base.specs.declared.name.Name.{Name}
 use Rattle.vlsi_base.specs.declared.name.Port.{Port}
 use Rattle.vlsi_base.specs.Names.{scalar}
@@ -14,21 +16,21 @@ use Rattle.vhdl_print.specs.EntityAgain.{IsName, CanBeAPort, CanBeWritten, AreAp
 use Rattle.vst_text.specs.Vst.{among_components, among_instances}
 use Rattle.net_core.specs.declared.pins.ModelPin.{ModelPin}
 use Rattle.net_core.specs.declared.pins.ModelPins.{ModelPins}
-use Rattle.net_core.specs.Places.{Stands, IsThere}
-use Rattle.net_core.specs.Netlist.{Instance, Netlist, IsNetlist, AreInOrder, pins_of, port}
-use Rattle.net_core.specs.Checks.{Fits, pins_named}
+use Rattle.net_core.specs.Places.{Stands, IsThere, NoneTwice}
+use Rattle.net_core.specs.Netlist.{Instance, Netlist, IsNetlist, AreInOrder, InTurn, pins_of, port}
+use Rattle.net_core.specs.Checks.{Fits, IsPinTable, pins_named}
 use Rattle.net_core.proofs.Namings.{turn_below}
 use Rattle.net_core.proofs.Lookups.{itself}
-use Rattle.net_right.specs.Writable.{CanBePorts, CanBeNamed, PinsCanBeWritten, port_of}
+use Rattle.net_right.specs.Writable.{IsIdentifier, CanBePorts, CanBeNamed, PinsCanBeWritten, port_of}
 use Rattle.vst_print.specs.Groups.{Group, grouped, declared, outline_of, outline}
-use Rattle.vst_print.specs.Structure.{Mapping, OneInstance}
+use Rattle.vst_print.specs.Structure.{Mapping, OneInstance, Structure}
 use Rattle.vst_print.specs.Nets.{first_ports, signal_text, is_free, signal_numbers, port_nets, signal_nets, net_names}
-use Rattle.vst_print.specs.Written.{used_models, component_of, mapped, instance_with, instances_with, structure_of}
+use Rattle.vst_print.specs.Written.{each_once, used_models, component_of, mapped, instance_with, instances_with, structure_of}
 use Rattle.vst_print.proofs.Runs.{some_groups}
-use Rattle.vst_print.proofs.Signals.{signals_many, names_many}
+use Rattle.vst_print.proofs.Signals.{firsts_few, signals_many, names_many}
 use Rattle.vst_print.proofs.Joined.{mapped_length, pin_total, total_pins}
-use Rattle.vst_print.specs.Says.{IsSmallPort, pin_count, IsWithinLimits}
-use Rattle.vst_print.proofs.Parts.{component_bits}
+use Rattle.vst_print.specs.Says.{IsShort, IsSmall, IsSmallPort, pin_count, IsWithinLimits}
+use Rattle.vst_print.proofs.Parts.{component_key, component_bits, instance_key}
 use Rattle.vst_print.proofs.Entries.{Entry, Differs, AreDifferent, total_bits, total_parts, different_parts, all_new, port_entry, component_entry, signal_entry, instance_entry, entries}
 use Rattle.vst_print.proofs.Fits.{CanBeAComponent, CanBeMentioned, CanBeMapped, CanBeInstance, CanBeLaidOut}
 use Rattle.vst_print.proofs.Grouped.{Chained, chained, GoodPort, groups_can, groups_apart, groups_differ, bits_again}

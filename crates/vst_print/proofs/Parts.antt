@@ -1,7 +1,8 @@
 -- What is laid out of a component, of a signal and of an instance spells it.
-use Rattle.std.proofs.Common.{◌≡◌, ℕ, ◌+◌, ◌-◌, ◌≤◌, ◌==◌, Bool, false, List, [], ◌∷◌, ◌++◌, Option, None, Some, Ok, Err, refl, sym, ap, ◌∙◌, arith, if◌then◌else◌, append-nil}
+use Rattle.std.proofs.Common.{◌≡◌, ℕ, ◌+◌, ◌-◌, ◌≤◌, ◌==◌, Bool, true, false, List, [], ◌∷◌, ◌++◌, Option, None, Some, Ok, Err, refl, sym, ap, ◌∙◌, arith, if◌then◌else◌, append-nil, append_assoc}
 use Rattle.vlsi_base.specs.declared.name.Name.{Name}
 use Rattle.vlsi_base.specs.declared.entity.NewName.{NewName}
+use Rattle.vlsi_base.specs.declared.entity.SignalGroup.{SignalGroup}
 use Rattle.vhdl_token.specs.declared.keyword.Keyword.TheVariants as word
 use Rattle.vhdl_token.specs.declared.token.Token.TheVariants as token
 use Rattle.vhdl_token.specs.declared.token.Sign.TheVariants as sign
@@ -10,25 +11,29 @@ use Rattle.grammar_theory.specs.declared.form.Form.TheVariants as form
 use Rattle.grammar_theory.specs.declared.refusal.Breach.TheVariants as broken
 use Rattle.grammar_theory.specs.declared.limits.TheConstants.{BITS}
 use Rattle.grammar_theory.specs.Tokens.{code_of}
-use Rattle.grammar_theory.specs.Marks.{plain, opens, declares, enters, State, is_declared, step}
-use Rattle.grammar_theory.specs.Grammar.{◌or◌, list}
+use Rattle.grammar_theory.specs.Marks.{plain, opens, declares, enters, counts, spells, State, is_declared, step}
+use Rattle.grammar_theory.specs.Grammar.{Grammar, nothing, one, ◌or◌, ◌>>=◌, list}
 use Rattle.vhdl_front.specs.Cursor.{name_of}
-use Rattle.vhdl_front.specs.Expression.{closing}
-use Rattle.vhdl_front.specs.Entity.{Names, declared, another, led_names, port_behind}
+use Rattle.vhdl_front.specs.Expression.{number, closing}
+use Rattle.vhdl_front.specs.Entity.{Names, declared, another, led_names, closed, port_behind, port_type, scalar}
+use Rattle.source_checks.specs.declared.statement.Selection.{Selection}
 use Rattle.source_checks.specs.declared.statement.Selection.TheVariants as selection
 use Rattle.vbe_text.specs.Vbe.{selected, selecting, target_behind, target, repeated}
 use Rattle.spell_theory.specs.Spells.{Spells}
-use Rattle.spell_theory.specs.Layout.{Written, gap, line_behind, placed, line_of}
+use Rattle.spell_theory.specs.Layout.{Written, gap, turn, line_behind, placed, line_of}
 use Rattle.spell_theory.proofs.Combinators.{spell_nothing, spell_lead, spell_then, spell_left, spell_right, spell_none, spell_more, spell_as, spell_to}
 use Rattle.spell_theory.proofs.Layouts.{placed_append, line_append}
-use Rattle.vhdl_print.specs.Outline.{OnePort, Outline, a_sign, type_layout, port_layout, ports_layout, placed_type, placed_port, placed_ports, port_bits, with_name, with_bits}
+use Rattle.vhdl_print.specs.Outline.{Bounds, OnePort, Outline, a_sign, mode_word, type_layout, port_layout, ports_layout, placed_type, placed_port, placed_ports, port_bits, with_name, with_bits}
 use Rattle.vhdl_print.specs.EntityAgain.{all_bits}
 use Rattle.vhdl_print.proofs.Steps.{Few, step_is, plain_step, opens_step, declares_step}
 use Rattle.vhdl_print.proofs.Entities.{at, spell_word, spell_sign, spell_number, spell_type, spell_mode, spell_no_bus, spell_closed, port_on_one_line, four}
+use Rattle.vst_text.specs.declared.file.PinName.{PinName}
 use Rattle.vst_text.specs.declared.file.Association.{Association}
-use Rattle.vst_text.specs.Vst.{among_components, among_instances, bare_name, another_bare, led_bare, own_bare, component_port, next_component_port, component_ports, component, signal, index, pin, association, next_association, port_map, instance_statement}
-use Rattle.vst_print.specs.Structure.{Mapping, OneInstance, bit_layout, name_layout, component_end, component_layout, signal_layout, mapping_layout, mappings_layout, instance_end, instance_layout}
-use Rattle.vst_print.specs.Placed.{placed_component, placed_signal, placed_pin, selected as selected_by, placed_net, placed_mapping, placed_mappings, placed_instance}
+use Rattle.vst_text.specs.declared.file.Declaration.{Declaration}
+use Rattle.vst_text.specs.declared.file.Declaration.TheVariants as declares_it
+use Rattle.vst_text.specs.Vst.{among_components, among_instances, bare_name, another_bare, led_bare, own_bare, component_port, next_component_port, component_ports, component, signal, declaration, index, pin, association, next_association, port_map, instance_statement}
+use Rattle.vst_print.specs.Structure.{Mapping, OneInstance, bit_layout, name_layout, component_end, component_layout, components_layout, signal_layout, signals_layout, mapping_layout, mappings_layout, instance_end, instance_layout, instances_layout}
+use Rattle.vst_print.specs.Placed.{placed_component, placed_components, placed_signal, placed_signals, placed_pin, selected as selected_by, placed_net, placed_mapping, placed_mappings, placed_instance, placed_instances}
 
 pub enters_step : (key : List ℕ) (line : ℕ) (name : List ℕ) (s : State) → Few s → is_declared (key ++ name) s.names ≡ false → step (enters key line name) s ≡ Ok (with_name (key ++ name) s)
 enters_step key line name s few new = step_is (enters key line name) s (with_name (key ++ name) s) few (ap (λ (b : Bool). if b then Err (broken.Twice line name) else Ok (with_name (key ++ name) s)) new)

@@ -1,7 +1,7 @@
 -- What the sentence of a netlist says.
-use Rattle.std.proofs.Common.{◌≡◌, ◌↔◌, ℕ, zero, suc, ◌+◌, ◌-◌, ◌<◌, ◌≤◌, ◌^◌, Bool, true, false, not, cond, nat_eq, nat_le, List, [], ◌∷◌, ◌++◌, map, length, take, drop, Option, None, Some, get_or, refl, sym, ap, subst, ◌∙◌, arith, append-nil, length-drop, bytes_eq}
+use Rattle.std.proofs.Common.{◌≡◌, ◌↔◌, ℕ, zero, suc, ◌+◌, ◌-◌, ◌*◌, ◌<◌, ◌≤◌, ◌^◌, Bool, true, false, not, cond, nat_eq, nat_le, List, [], ◌∷◌, ◌++◌, map, length, take, drop, Option, None, Some, get_or, refl, sym, ap, subst, ◌∙◌, arith, append-nil, append_assoc, length-append, length-drop, bytes_eq}
 use Rattle.std.specs.List.{All, flat_map}
-use Rattle.std.proofs.lemmas.Bool.{eq-eqb, ne_eqb, leb-true, leb-false}
+use Rattle.std.proofs.lemmas.Bool.{eqb-true, eq-eqb, ne_eqb, leb-true, leb-false}
 use Rattle.std.proofs.lemmas.List.{length-map, length-take-le}
 use Rattle.std.proofs.lemmas.List.Elements.{All-head, All-tail, All-cons, All-nil, All-map, All-weaker}
 use Rattle.std.proofs.lemmas.List.Sums.{AllPass-from_list_all}
@@ -13,27 +13,29 @@ use Rattle.vlsi_base.specs.declared.name.Dir.TheVariants as dir
 use Rattle.vlsi_base.specs.declared.name.Terminal.{Terminal}
 use Rattle.vlsi_base.specs.Names.{scalar}
 use Rattle.vlsi_base.specs.Range.{rising}
-use Rattle.vhdl_print.specs.Outline.{Outline, entity_layout, placed_port, placed_ports, placed_type}
+use Rattle.vhdl_print.specs.Outline.{OnePort, Outline, entity_layout, placed_port, placed_ports, placed_type}
 use Rattle.spell_theory.specs.Layout.{line_behind, line_of}
 use Rattle.vst_text.specs.declared.file.Component.{Component}
+use Rattle.vst_text.specs.declared.file.Declaration.{Declaration}
 use Rattle.vst_text.specs.declared.file.Association.{Association}
 use Rattle.vst_text.specs.declared.file.InstanceStatement.{InstanceStatement}
+use Rattle.vst_text.specs.declared.file.StructuralFile.{StructuralFile}
 use Rattle.net_core.specs.declared.pins.ModelPins.{ModelPins}
 use Rattle.net_core.specs.Places.{Stands, IsThere, NoneTwice}
-use Rattle.net_core.specs.Netlist.{Instance, Netlist, IsNetlist, InTurn, again, first, port, pin_of, pins_of, terminals, HasClass}
+use Rattle.net_core.specs.Netlist.{Instance, Netlist, IsNetlist, InTurn, ended, again, first, port, pin_of, pins_of, terminals, HasClass, AreInOrder}
 use Rattle.net_core.specs.Checks.{pins_named}
 use Rattle.net_core.proofs.Standing.{Split, left, right, split, stands_left, stands_right, stands_same, none_twice_append}
-use Rattle.net_core.proofs.Frames.{flat_split, mapped as map_stands, unmapped}
+use Rattle.net_core.proofs.Frames.{Within, flat_split, mapped as map_stands, unmapped}
 use Rattle.net_core.proofs.Finishing.{class_once, netlist_terminals_once}
 use Rattle.net_right.specs.Writable.{port_of}
 use Rattle.vst_print.specs.Groups.{Group, grouped, mode_of, bounds_of, declared, outline_of, outline}
-use Rattle.vst_print.specs.Structure.{Mapping, component_layout, components_layout, signals_layout, begin_layout, head_layout, instance_layout}
+use Rattle.vst_print.specs.Structure.{Mapping, OneInstance, component_layout, components_layout, signals_layout, begin_layout, head_layout, instance_layout}
 use Rattle.vst_print.specs.Nets.{first_ports, signal_text, is_free, signal_numbers, port_nets, signal_nets, net_names}
 use Rattle.vst_print.specs.Written.{used_models, component_of, mapped, instance_with, instances_with}
 use Rattle.vst_print.proofs.Runs.{some_groups, stands_drop}
 use Rattle.vst_print.proofs.Joined.{mapped_length, pin_total}
 use Rattle.vst_print.specs.Placed.{placed_component, placed_components, placed_signals, placed_mapping, placed_mappings, placed_instance, placed_instances, selected, file_of}
-use Rattle.vst_print.specs.Says.{dir_of, bit_ports, ports_of, components_of, bit_of, pin_name, net_name, Joins, PortsAreApart, WrittenSaysTheNetlist}
+use Rattle.vst_print.specs.Says.{dir_of, bit_ports, ports_of, components_of, bit_of, pin_name, net_name, Joins, Says, PortsAreApart, WrittenSaysTheNetlist}
 use Rattle.vst_print.proofs.Grouped.{Good, GoodBits, one_port, bound_ports, group_ports, ports_again, bits_good}
 use Rattle.vst_print.proofs.Names.{AllApart, not_of, GoodNumber, numbers_good, signals_apart}
 use Rattle.vst_print.proofs.Netlists.{Sound, Known, Ready, Facts, facts, outline_name, component_names, known_used}

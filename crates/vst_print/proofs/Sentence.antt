@@ -1,4 +1,5 @@
 -- What is written of a netlist is a sentence.
+use Rattle.std.proofs.Common.{◌≡◌}
 use Rattle.vst_print.specs.Written.{structure_of, layout}
 use Rattle.vst_print.specs.Says.{WrittenIsASentence}
 use Rattle.vst_print.proofs.Fits.{sentence}

@@ -1,5 +1,5 @@
 -- What is laid out of a structural text spells it.
-use Rattle.std.proofs.Common.{◌≡◌, ℕ, ◌+◌, ◌-◌, ◌==◌, false, List, [], ◌∷◌, ◌++◌, map, refl, sym, ap, ◌∙◌, append-nil, append_assoc}
+use Rattle.std.proofs.Common.{◌≡◌, ℕ, ◌+◌, ◌-◌, ◌≤◌, ◌==◌, Bool, true, false, List, [], ◌∷◌, ◌++◌, map, refl, sym, ap, subst, ◌∙◌, append-nil, append_assoc}
 use Rattle.vhdl_token.specs.declared.keyword.Keyword.TheVariants as word
 use Rattle.vhdl_token.specs.declared.token.Token.TheVariants as token
 use Rattle.vhdl_token.specs.declared.token.Sign.TheVariants as sign
@@ -7,23 +7,24 @@ use Rattle.vhdl_token.specs.declared.token.PlacedToken.{PlacedToken}
 use Rattle.grammar_theory.specs.declared.form.Form.TheVariants as form
 use Rattle.grammar_theory.specs.Tokens.{code_of}
 use Rattle.grammar_theory.specs.Marks.{spells, State}
-use Rattle.grammar_theory.specs.Grammar.{◌or◌, list}
+use Rattle.grammar_theory.specs.Grammar.{Grammar, nothing, one, ◌or◌, ◌>>=◌, list}
 use Rattle.vhdl_front.specs.Cursor.{name_of}
 use Rattle.vbe_text.specs.Vbe.{belonging, architecture_head, repeated}
 use Rattle.spell_theory.specs.Spells.{Spells}
 use Rattle.spell_theory.specs.Layout.{line_behind, placed, line_of}
 use Rattle.spell_theory.proofs.Combinators.{spell_nothing, spell_lead, spell_then, spell_left, spell_right, spell_none, spell_more, spell_as, spell_to}
 use Rattle.spell_theory.proofs.Layouts.{placed_append}
-use Rattle.vhdl_print.specs.Outline.{Outline, entity_layout, placed_entity, with_name}
+use Rattle.vhdl_print.specs.Outline.{Outline, entity_layout, placed_entity, with_ports, with_name}
 use Rattle.vhdl_print.proofs.Steps.{Few, spells_step}
 use Rattle.vhdl_print.proofs.Entities.{at, spell_word, spell_sign, spell_identifier, spell_entity}
 use Rattle.vst_text.specs.declared.file.Declaration.{Declaration}
 use Rattle.vst_text.specs.declared.file.Declaration.TheVariants as declares
+use Rattle.vst_text.specs.declared.file.InstanceStatement.{InstanceStatement}
 use Rattle.vst_text.specs.Vst.{declaration, instance_statement, instance_statements, architecture, structure}
-use Rattle.vst_print.specs.Structure.{OneInstance, Structure, architecture_name, component_layout, components_layout, signals_layout, instance_layout, instances_layout, head_layout, begin_layout, last_layout, structure_layout}
-use Rattle.vst_print.specs.Placed.{placed_component, placed_components, placed_signal, placed_signals, placed_instances, placed_structure}
+use Rattle.vst_print.specs.Structure.{OneInstance, Structure, architecture_name, component_layout, components_layout, signal_layout, signals_layout, instance_layout, instances_layout, head_layout, begin_layout, last_layout, structure_layout}
+use Rattle.vst_print.specs.Placed.{placed_component, placed_components, placed_signal, placed_signals, placed_instance, placed_instances, placed_structure}
 use Rattle.vst_print.proofs.Parts.{spell_component, spell_signal, spell_instance, no_bits, with_component, with_signal, instance_key}
-use Rattle.vst_print.proofs.Entries.{with_entry, with_entries, EntriesNew, port_entry, component_entry, signal_entry, instance_entry, entries, new_front, new_back, ports_new, with_port_entries, few_entries}
+use Rattle.vst_print.proofs.Entries.{Entry, with_entry, with_entries, EntriesNew, port_entry, component_entry, signal_entry, instance_entry, entries, new_front, new_back, ports_new, with_port_entries, few_entries}
 
 -- ---- declarations
 

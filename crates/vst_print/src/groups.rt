@@ -1,5 +1,5 @@
 // Ports as they are declared.
-ghost use Rattle.std.specs.Prelude.{◌≡◌, ◌++◌, ◌∷◌, ◌<◌, [], Some, map, length, IfOk, OnOk};
+ghost use Rattle.std.specs.Prelude.{◌≡◌, ◌++◌, ◌∷◌, ◌<◌, ◌≤◌, [], None, Some, map, length, IfOk, OnOk, ℕ};
 ghost use Rattle.std.specs.Fmt.{decimal};
 ghost use Rattle.vlsi_base.specs.declared.name.Port.{Port};
 ghost use Rattle.spell_theory.specs.Layout.{text_of};
@@ -11,7 +11,7 @@ ghost use Rattle.vst_print.specs.Pieces.{IsRunEnd, ports_text};
 
 use net_core::ModelPin;
 use std::alloc::{AllocError, Global};
-use vlsi_base::{Dir, FileBytes, Port, Text};
+use vlsi_base::{Dir, FileBytes, Name, Port, Text};
 
 /// A number.
 pub fn number(alloc: Global, out: &mut FileBytes, n: u32) -> Result<(), AllocError>

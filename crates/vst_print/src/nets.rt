@@ -1,6 +1,7 @@
 // The names of a netlist's classes.
-ghost use Rattle.std.specs.Prelude.{◌≡◌, ◌++◌, ◌+◌, ◌-◌, ◌<◌, ◌≤◌, ◌^◌, map, length, IfOk, OnOk};
+ghost use Rattle.std.specs.Prelude.{◌≡◌, ◌++◌, ◌+◌, ◌-◌, ◌<◌, ◌≤◌, ◌^◌, ℕ, List, None, map, length, IfOk, OnOk};
 ghost use Rattle.vlsi_base.specs.Names.{scalar};
+ghost use Rattle.net_core.specs.Places.{position_of};
 ghost use Rattle.net_core.specs.Netlist.{IsNetlist};
 ghost use Rattle.vst_print.specs.Nets.{first_ports, signal_text, signal_numbers, port_nets, net_names};
 ghost use Rattle.vst_print.specs.Pieces.{AreTaken};

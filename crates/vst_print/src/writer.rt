@@ -4,8 +4,8 @@ ghost use Rattle.std.specs.List.{All};
 ghost use Rattle.spell_theory.specs.Layout.{text_of};
 ghost use Rattle.net_core.specs.Frame.{instance_of};
 ghost use Rattle.net_core.specs.Checks.{Fits};
-ghost use Rattle.net_right.specs.Writable.{PinsCanBeWritten, CanBeNamed};
-ghost use Rattle.vst_print.specs.Structure.{head_layout, signals_layout, components_layout};
+ghost use Rattle.net_right.specs.Writable.{PinsCanBeWritten, CanBeNamed, IsBadMap};
+ghost use Rattle.vst_print.specs.Structure.{head_layout, signals_layout, components_layout, begin_layout};
 ghost use Rattle.vst_print.specs.Written.{used_models, component_of, layout, IsWriteRefusal};
 ghost use Rattle.vst_print.specs.Pieces.{front_text, body_text};
 

@@ -1,4 +1,4 @@
-use Rattle.std.proofs.Common.{rules, ◌≡◌, arith, true, false, refl}
+use Rattle.std.proofs.Common.{rules, ◌≡◌, ◌≤◌, arith, true, false, refl}
 use Rattle.std.specs.Prelude.{min, max}
 use Rattle.vlsi_base.specs.declared.range.Range.{Range}
 use Rattle.fsm_text.proofs.Clipped.{falls_within, rises_within, few_fall, few_rise}

@@ -1,4 +1,4 @@
-use Rattle.std.proofs.Common.{rules, ◌≡◌, ◌∙◌, ◌≤◌, ◌+◌, length, None, Some, refl, sym, ap, subst}
+use Rattle.std.proofs.Common.{rules, ◌≡◌, ◌∙◌, ◌≤◌, ◌+◌, List, length, None, Some, refl, sym, ap, subst}
 use Rattle.vlsi_base.specs.declared.range.Range.{Range}
 use Rattle.source_checks.specs.declared.statement.Selection.{Selection}
 use Rattle.source_checks.specs.declared.statement.Selection.TheVariants as selection

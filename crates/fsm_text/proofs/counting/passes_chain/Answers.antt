@@ -1,4 +1,4 @@
-use Rattle.std.proofs.Common.{rules, ◌≡◌, ◌∙◌, ◌<◌, ◌^◌, List, [], length, None, Ok, Err, false, sym, ap, subst, IfOk}
+use Rattle.std.proofs.Common.{rules, ◌≡◌, ◌∙◌, ◌<◌, ◌^◌, List, [], length, None, Some, Ok, Err, true, false, sym, ap, subst, IfOk}
 use Rattle.std.specs.Prelude.{is_none}
 use Rattle.std.specs.Option.{option_copied}
 use Rattle.vhdl_token.specs.declared.token.PlacedToken.{PlacedToken}

@@ -1,4 +1,5 @@
-use Rattle.std.proofs.Common.{rules, ◌≡◌, ◌∙◌, ◌-◌, ◌≤◌, ◌<◌, List, [], None, Some, true, false, length, drop, sym, subst, ap}
+use Rattle.std.proofs.Common.{rules, ◌≡◌, ◌∙◌, ◌-◌, ◌≤◌, ◌<◌, List, [], None, Some, true, false, length, take, drop, sym, subst, ap}
+use Rattle.vlsi_base.specs.declared.name.Name.{Name}
 use Rattle.source_checks.specs.declared.symbol_table.Symbol.{Symbol}
 use Rattle.fsm_text.specs.Chains.{assigned_here, counted_bits, taken, overfull, passes_before, IsTally}
 use Rattle.fsm_text.proofs.Chains.{Counting, behind_first, not_taken, is_taken, counting_passes, counting_takes, counting_stops, counting_ends}

@@ -1,4 +1,4 @@
-use Rattle.std.proofs.Common.{rules, ◌∙◌, sym, ap, subst}
+use Rattle.std.proofs.Common.{rules, ◌≡◌, ◌∙◌, sym, ap, subst}
 use Rattle.grammar_theory.specs.Outcome.{start}
 use Rattle.fsm_text.specs.Written.{machine_view}
 use Rattle.fsm_text.specs.Texts.{PassesBefore, IsRefusedMachine}

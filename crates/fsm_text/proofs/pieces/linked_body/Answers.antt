@@ -1,4 +1,4 @@
-use Rattle.std.proofs.Common.{◌≡◌, ◌++◌, ◌∙◌, [], ◌∷◌, map, ap, sym}
+use Rattle.std.proofs.Common.{◌≡◌, ◌++◌, ◌∙◌, List, [], ◌∷◌, map, ap, sym}
 use Rattle.std.proofs.lemmas.List.{map_push}
 use Rattle.fsm_text.specs.Written.{statement_view, body_view, next, followed, body_of}
 use Rattle.fsm_text.proofs.Linking.{followed-push}

@@ -1,8 +1,9 @@
-use Rattle.std.proofs.Common.{◌∙◌, List, ap, sym, subst, arith}
+use Rattle.std.proofs.Common.{◌≡◌, ◌∙◌, List, ap, sym, subst, arith}
 use Rattle.vlsi_base.specs.declared.name.Name.{Name}
 use Rattle.net_machine.specs.Answers.{IsMachineRefusal}
 use Rattle.net_machine.specs.declared.error.NetMachineError.{NetMachineError}
 use Rattle.net_machine.specs.declared.error.NetMachineError.TheVariants as error
+use Rattle.net_flat.specs.Parts.{registers_of}
 use Rattle.net_flat.specs.Renamed.{AreFree, IsRenamed}
 use Rattle.net_flat.proofs.Knowing.{never_opaque}
 use Rattle.net_flat.proofs.Naming.{are_free}

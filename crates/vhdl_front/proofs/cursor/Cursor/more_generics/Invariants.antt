@@ -1,4 +1,5 @@
 use Rattle.std.proofs.Common.{[], ◌∷◌, length}
+use Rattle.vhdl_token.specs.declared.keyword.Keyword.TheVariants as word
 use Rattle.vhdl_token.specs.declared.token.Sign.TheVariants as sign
 use Rattle.grammar_theory.specs.declared.form.Form.TheVariants as form
 use Rattle.grammar_theory.specs.Tokens.{code}

@@ -1,11 +1,12 @@
 use Rattle.std.proofs.Common.{rules, ◌≡◌, ◌++◌, ◌∙◌, [], ◌∷◌, true, false, Ok}
 use Rattle.std.proofs.lemmas.Result.{err_from_is_err_and}
+use Rattle.vhdl_token.specs.declared.keyword.Keyword.TheVariants as word
 use Rattle.vhdl_token.specs.declared.token.Sign.TheVariants as sign
 use Rattle.grammar_theory.specs.declared.form.Form.TheVariants as form
 use Rattle.grammar_theory.specs.Tokens.{code, is_at, among}
 use Rattle.grammar_theory.specs.Outcome.{Fails, list_at, with_front}
 use Rattle.grammar_theory.proofs.Bundle.{among_one}
-use Rattle.grammar_theory.proofs.Listing.{list_begins_with, list_goes_on, list_fails, list_ends}
+use Rattle.grammar_theory.proofs.Listing.{list_begins, list_begins_with, list_goes_on, list_fails, list_ends}
 use Rattle.vhdl_front.specs.EntityReading.{another_at}
 use Rattle.vhdl_front.proofs.EntityLanguage.{another_consumes}
 use Rattle.vhdl_front.proofs.cursor.Cursor.more_names.Goals as goal

@@ -1,8 +1,9 @@
 use Rattle.std.proofs.Common.{[], ◌∷◌, length}
 use Rattle.vhdl_token.specs.declared.keyword.Keyword.TheVariants as word
+use Rattle.vhdl_token.specs.declared.token.Sign.TheVariants as sign
 use Rattle.grammar_theory.specs.declared.form.Form.TheVariants as form
 use Rattle.grammar_theory.specs.Tokens.{code}
-use Rattle.grammar_theory.specs.Outcome.{list_at}
+use Rattle.grammar_theory.specs.Outcome.{list_at, with_front}
 use Rattle.grammar_theory.proofs.Listing.{Listed}
 use Rattle.vhdl_front.specs.EntityReading.{signal_at}
 use Rattle.vhdl_front.proofs.cursor.Cursor.signals.Given as goal
