@@ -11,14 +11,13 @@ use Rattle.std.proofs.lemmas.List.{append-nil}
 use Rattle.std.proofs.lemmas.List.Sums.{list_all-from_AllPass}
 use Rattle.vlsi_base.specs.Number.{value_of}
 use Rattle.vlsi_base.specs.declared.name.Name.{Name}
-use Rattle.vlsi_base.proofs.Decimal.{decimal_is}
 use Rattle.ap_io.specs.declared.limits.TheConstants.{MOST_NAME_BYTES}
 use Rattle.ap_io.specs.Spelling.{name_text, bit_text}
 use Rattle.ap_io.specs.Fields.{is_digits, is_in_word, is_identifier, lower, word_of, behind_word, bit_digits, is_bit_of, is_label, label_of}
 use Rattle.ap_io.specs.LineFaults.{long_name}
 use Rattle.ap_io.specs.ApText.{is_word_byte, is_field_byte, IsWord, IsLabel, IsShort, IsShortLabel}
 use Rattle.ap_io.proofs.Bytes.{both, letter_in_word, letter_begins, letter_no_star, word_byte_in_word, word_byte_in_field, digit_in_field, all_implied, all_append, all_same, prefix_all}
-use Rattle.ap_io.proofs.NumbersAgain.{digits_some}
+use Rattle.ap_io.proofs.NumbersAgain.{decimal_is, digits_some}
 
 -- ---- identifiers
 

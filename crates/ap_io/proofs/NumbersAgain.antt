@@ -1,19 +1,42 @@
 -- What is written is read again: numbers.
-use Rattle.std.proofs.Common.{◌≡◌, ℕ, suc, ◌^◌, ◌<◌, ◌≤◌, Bool, true, false, not, ◌==◌, ◌&&◌, List, [], ◌∷◌, length, drop, refl, sym, ap, ◌∙◌, arith, if◌then◌else◌}
-use Rattle.std.specs.Prelude.{ℤ, pos, negsuc, ◌≤ℤ◌, neg_ℤ, nat_abs, nat_lt}
+use Rattle.std.proofs.Common.{◌≡◌, ℕ, suc, ◌+◌, ◌-◌, ◌*◌, ◌%◌, ◌^◌, ◌<◌, ◌≤◌, Bool, true, false, not, ◌==◌, ◌&&◌, List, [], ◌∷◌, ◌++◌, length, drop, refl, sym, ap, ◌∙◌, arith, le-leb, length-append, if◌then◌else◌}
+use Rattle.std.specs.Prelude.{ℤ, pos, negsuc, ◌≤ℤ◌, neg_ℤ, nat_abs, nat_le, nat_lt}
 use Rattle.std.specs.List.{list_all}
 use Rattle.std.specs.Char.{is_ascii_digit}
 use Rattle.std.specs.Fmt.{decimal, signed_decimal}
+use Rattle.std.proofs.lemmas.Fmt.{decimal_by_steps}
 use Rattle.std.proofs.lemmas.Bool.Decides.{nat_tests}
 use Rattle.std.proofs.lemmas.Int.{ints}
-use Rattle.vlsi_base.specs.Number.{value_of}
-use Rattle.vlsi_base.proofs.Decimal.{decimal_is}
+use Rattle.vlsi_base.specs.Number.{value_of, value_from}
 use Rattle.ap_io.specs.declared.scale.Scale.TheVariants.{Hundred}
 use Rattle.ap_io.specs.declared.limits.TheConstants.{MOST_COORDINATE}
 use Rattle.ap_io.specs.Fields.{has_minus, digits_of, is_digits, is_number, signed, size_of, number_of, reach, coordinate_of, is_width, is_index}
 use Rattle.ap_io.specs.ApText.{is_field_byte, IsNear}
 use Rattle.ap_io.proofs.Digits.{digit_range, head_digit}
-use Rattle.ap_io.proofs.Bytes.{both, all_implied, digit_in_field}
+use Rattle.ap_io.proofs.Bytes.{both, all_append, all_implied, digit_in_field}
+
+value_more : (m : ℕ) (ds : List ℕ) (d : ℕ) → value_from m (ds ++ (48 + d) ∷ []) ≡ value_from m ds * 10 + d
+value_more m [] d = omega arith
+value_more m (c ∷ cs) d = value_more (m * 10 + (c - 48)) cs d
+
+-- digits that spell a number
+pub record IsDecimal (n : ℕ) (ds : List ℕ) : Type 0 where
+  pub digits : list_all is_ascii_digit ds ≡ true
+  pub value : value_of ds ≡ n
+  pub some : 0 < length ds
+
+digit_of_ten : (d : ℕ) → d < 10 → is_ascii_digit (48 + d) ≡ true
+digit_of_ten d h = both (nat_le 48 (48 + d)) (nat_le (48 + d) 57) (le-leb 48 (48 + d) (omega arith)) (le-leb (48 + d) 57 (omega arith))
+
+pub decimal_is : (n : ℕ) → n < 2 ^ 64 → IsDecimal n (decimal n)
+decimal_is n h = decimal_by_steps IsDecimal
+    (λ n less. record { digits = both (is_ascii_digit (48 + n)) true (digit_of_ten n less) refl; value = omega arith; some = omega arith })
+    (λ n ds least front. record {
+      digits = all_append is_ascii_digit ds ((48 + n % 10) ∷ []) front.digits (both (is_ascii_digit (48 + n % 10)) true (digit_of_ten (n % 10) (omega arith)) refl);
+      value = value_more 0 ds (n % 10) ∙ ap (λ m. m * 10 + n % 10) front.value ∙ omega arith;
+      some = omega (arith, length-append ds ((48 + n % 10) ∷ []));
+    })
+    n h
 
 no_minus : (ds : List ℕ) → list_all is_ascii_digit ds ≡ true → has_minus ds ≡ false
 no_minus [] all = refl

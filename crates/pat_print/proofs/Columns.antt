@@ -28,8 +28,7 @@ use Rattle.pat_text.specs.Spelled.{text_of, direction_named, format_named}
 use Rattle.pat_text.specs.Patterns.{direction, named_format, one_dir, column_dir, range, column_end, column_behind, column}
 use Rattle.pat_io.specs.Spelling.{together, item_end, word_of, range_text, format_text, dir_text, column_text, columns_text}
 use Rattle.pat_io.specs.ReadAgain.{written_range, written_column}
-use Rattle.spell_theory.specs.Words.{IsSmallWord}
-use Rattle.pat_print.specs.WrittenAgain.{HasSmallEnds}
+use Rattle.pat_print.specs.WrittenAgain.{IsSmallWord, HasSmallEnds}
 use Rattle.pat_print.proofs.Places.{at, takes, blank, line_end, line_behind}
 use Rattle.pat_print.proofs.Sentences.{Reads, read_nothing, read_one, read_then, read_left, read_right, read_none, read_more, read_behind, read_before, read_from}
 use Rattle.pat_print.proofs.Words.{read_plain, read_same, fits_step, read_sign, read_number, token_of_word, word_text, read_word}

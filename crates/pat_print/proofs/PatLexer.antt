@@ -95,9 +95,6 @@ number_front : (n : ℕ) (s rest : List ℕ) → n < 2 ^ 32 → IsDecimal n s �
 number_front n [] rest less d stops = let some = d.some in absurd (omega arith)
 number_front n (c ∷ cs) rest less d stops = at_number c (cs ++ rest) (and_parts (is_ascii_digit c) (list_all is_ascii_digit cs) d.digits).0 ∙ number_whole n (c ∷ cs) rest less d stops
 
-pub number_piece : (n : ℕ) (rest : List ℕ) → n < 2 ^ 32 → is_ascii_digit (slice_index rest 0) ≡ false → piece_at false (decimal n ++ rest) ≡ piece.Token (token.Number n) (length (decimal n))
-number_piece n rest less stops = number_front n (decimal n) rest less (decimal_is n (omega (arith, less))) stops
-
 -- ---- signs
 
 sign_piece : (v : Bool) (s : Sign) (rest : List ℕ) → sign_stops s (slice_index rest 0) ≡ true → piece_at v (sign_text s ++ rest) ≡ piece.Token (token.Sign s) (length (sign_text s))
@@ -194,7 +191,7 @@ token_piece false (token.Sign s) rest h = sign_piece false s rest h
 token_piece true (token.Digits s) rest h = digits_piece s rest h.0 h.1 h.2
 token_piece false (token.Identifier name) rest h = word_token_piece (token.Identifier name) name rest h
 token_piece false (token.Keyword k) rest h = word_token_piece (token.Keyword k) (keyword_text k) rest h
-token_piece false (token.Number n) rest h = number_piece n rest h.0 h.1
+token_piece false (token.Number n) rest h = let less : n < 2 ^ 32 = h.0 in number_front n (decimal n) rest less (decimal_is n (omega (arith, less))) h.1
 token_piece true (token.Identifier name) rest h = absurd h
 token_piece true (token.Keyword k) rest h = absurd h
 token_piece true (token.Number n) rest h = absurd h

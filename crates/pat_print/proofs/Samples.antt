@@ -20,8 +20,7 @@ use Rattle.pat_meaning.specs.Answers.{IsSupplyColumn, IsOfPorts}
 use Rattle.pat_io.specs.Spelling.{text_of}
 use Rattle.vlsi_base.specs.Name.{is_supply}
 use Rattle.pat_io.specs.PatternText.{IsPatternText}
-use Rattle.spell_theory.specs.Words.{IsSmallWord}
-use Rattle.pat_print.specs.WrittenAgain.{IsSmallLabel, HasSmallEnds, CanBeSpelled}
+use Rattle.pat_print.specs.WrittenAgain.{IsSmallWord, IsSmallLabel, HasSmallEnds, CanBeSpelled}
 use Rattle.pat_print.proofs.Again.{written_is_read_again}
 
 abbrev scalar : List ℕ → Name

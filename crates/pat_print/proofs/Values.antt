@@ -29,9 +29,7 @@ use Rattle.pat_io.specs.ReadAgain.{written_range, written_digits, written_values
 use Rattle.pat_io.proofs.Ranges.{length_names}
 use Rattle.pat_print.proofs.Places.{at, takes, blank, line_behind}
 use Rattle.pat_print.proofs.Sentences.{Reads, read_nothing, read_one, read_then, read_left, read_right, read_behind, read_from}
-use Rattle.spell_theory.proofs.Letters.{both}
-use Rattle.pat_print.specs.Said.{is_hexadecimal}
-use Rattle.pat_print.proofs.PatLexer.{digits_piece}
+use Rattle.pat_print.proofs.Letters.{both, is_hexadecimal, digits_piece}
 use Rattle.pat_print.proofs.Words.{fits_step, read_sign}
 use Rattle.pat_print.proofs.Columns.{columns_from}
 

@@ -20,11 +20,10 @@ use Rattle.grammar_theory.specs.Grammar.{nothing, one}
 use Rattle.vhdl_front.specs.Expression.{number}
 use Rattle.pat_text.specs.Spelled.{text_in, text_of}
 use Rattle.pat_text.specs.Patterns.{any_word, labelled, label}
-use Rattle.spell_theory.specs.Words.{IsSmallWord}
-use Rattle.spell_theory.proofs.Letters.{word_some, decimal_is}
+use Rattle.pat_print.specs.WrittenAgain.{IsSmallWord}
 use Rattle.pat_print.proofs.Places.{Place, at, Takes, takes}
 use Rattle.pat_print.proofs.Sentences.{start, Reads, read_nothing, read_one, read_then, read_left, read_right}
-use Rattle.pat_print.proofs.PatLexer.{word_piece, number_piece}
+use Rattle.pat_print.proofs.Letters.{word_piece, word_some, number_piece, decimal_is}
 
 -- ---- marks
 

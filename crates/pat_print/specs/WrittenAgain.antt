@@ -1,9 +1,9 @@
 -- What is written of patterns is read again as these patterns.
-use Rattle.std.specs.Prelude.{◌≡◌, ℕ, ◌^◌, ◌<◌, ◌≤◌, false, List, [], length, Option, Some, None}
-use Rattle.std.specs.List.{All}
+use Rattle.std.specs.Prelude.{◌≡◌, ℕ, ◌^◌, ◌<◌, ◌≤◌, ◌==◌, Bool, true, false, ◌||◌, ◌&&◌, nat_le, List, [], length, slice_index, Option, Some, None}
+use Rattle.std.specs.List.{All, list_all}
+use Rattle.std.specs.Char.{is_ascii_digit}
 use Rattle.vlsi_base.specs.declared.limits.TheConstants.{MOST_SOURCE_BYTES}
 use Rattle.vlsi_base.specs.declared.name.Port.{Port}
-use Rattle.spell_theory.specs.Words.{IsSmallWord}
 use Rattle.pat_meaning.specs.declared.patterns.BitRange.{BitRange}
 use Rattle.pat_meaning.specs.declared.patterns.Patterns.{Patterns}
 use Rattle.pat_meaning.specs.Answers.{AreFor}
@@ -12,6 +12,20 @@ use Rattle.vlsi_base.specs.Name.{is_supply}
 use Rattle.pat_io.specs.Fitting.{time_faults}
 use Rattle.pat_io.specs.PatternText.{IsPatternText}
 use Rattle.pat_io.specs.ReadAgain.{written}
+
+-- a letter in lower case
+abbrev pub is_small_letter : ℕ → Bool
+is_small_letter b = nat_le 97 b && nat_le b 122
+
+-- a letter in lower case, a digit or an underscore
+abbrev pub is_in_small_word : ℕ → Bool
+is_in_small_word b = is_small_letter b || is_ascii_digit b || b == 95
+
+-- A word in lower case: a letter, and behind it letters, digits and underscores, at most 64 bytes together.
+pub record IsSmallWord (text : List ℕ) : Type 0 where
+  pub begins : is_small_letter (slice_index text 0) ≡ true
+  pub letters : list_all is_in_small_word text ≡ true
+  pub short : length text ≤ 64
 
 abbrev pub IsSmallLabel : Option (List ℕ) → Type 0
 IsSmallLabel None = Unit {0}
