@@ -16,7 +16,7 @@ use net_sim::{NetSimError, simulate_net};
 use pat_io::{read_pat, write_pat};
 use pat_meaning::Pattern;
 use std::alloc::{AllocError, Global};
-use tool_drive::{Product, Refusal, Status, Verdict, Wanted, bytes_at, refused};
+use tool_drive::{Answer, Product, Refusal, Status, Verdict, Wanted, bytes_at, refused};
 use vlsi_base::{FileBytes, FileName, Limit, LimitKind};
 use vst_io::read_vst;
 
@@ -114,12 +114,7 @@ impl LibraryTool for AsimutNetlistCommand {
         &self.library
     }
 
-    fn judge_with(
-        &self,
-        alloc: Global,
-        library: &Library,
-        first: &[FileBytes],
-    ) -> Result<Product, Refusal> {
+    fn judge_with(&self, alloc: Global, library: &Library, first: &[FileBytes]) -> Answer {
         simulated(alloc, self, library, first)
     }
 

@@ -8,7 +8,7 @@ use asimut_sim::{SimError, simulate};
 use pat_io::{read_pat, write_pat};
 use pat_meaning::Pattern;
 use std::alloc::{AllocError, Global};
-use tool_drive::{Product, Refusal, Status, Tool, Verdict, Wanted, bytes_at, refused};
+use tool_drive::{Answer, Product, Refusal, Status, Tool, Verdict, Wanted, bytes_at, refused};
 use vbe_io::read_vbe;
 use vlsi_base::{FileBytes, Text, push_u64};
 
@@ -90,12 +90,7 @@ impl Tool for AsimutCommand {
         Ok(Vec::new(alloc))
     }
 
-    fn judge(
-        &self,
-        alloc: Global,
-        first: &[FileBytes],
-        _: &[FileBytes],
-    ) -> Result<Product, Refusal> {
+    fn judge(&self, alloc: Global, first: &[FileBytes], _: &[FileBytes]) -> Answer {
         simulated(alloc, self, bytes_at(first, 0), bytes_at(first, 1))
     }
 }

@@ -57,15 +57,9 @@ pub const ASIMUT_ENTRY: Entry = Entry {
 };
 
 impl FromValues for AsimutTask {
-    ghost use Rattle.asimut_run.specs.Words.{asimut, asimut_from};
-
-    ghost called = { asimut };
+    ghost use Rattle.asimut_run.specs.Words.{asimut_from};
 
     ghost asked = { asimut_from };
-
-    fn entry() -> Entry {
-        ASIMUT_ENTRY
-    }
 
     fn from_values(alloc: Global, values: &Values) -> Result<Self, WordsError> {
         let source = source(alloc, values, ASIMUT_ENTRY.endings)?;

@@ -9,7 +9,7 @@ use crate::words::BoogCommand;
 use cell_checks::Library;
 use cell_lib::LibraryTool;
 use std::alloc::{AllocError, Global};
-use tool_drive::{Product, Refusal, Wanted, bytes_at, refused};
+use tool_drive::{Answer, Product, Refusal, Wanted, bytes_at, refused};
 use vbe_io::read_vbe;
 use vbe_writable::{catal_is_named, cell_can_be_written, machine_can_be_written, machine_is_named};
 use vlsi_base::{FileBytes, FileName};
@@ -69,12 +69,7 @@ impl LibraryTool for BoogCommand {
         &self.library
     }
 
-    fn judge_with(
-        &self,
-        alloc: Global,
-        library: &Library,
-        first: &[FileBytes],
-    ) -> Result<Product, Refusal> {
+    fn judge_with(&self, alloc: Global, library: &Library, first: &[FileBytes]) -> Answer {
         mapped(alloc, self, library, bytes_at(first, 0))
     }
 

@@ -22,15 +22,9 @@ pub const BOOG_ENTRY: Entry = Entry {
 };
 
 impl FromValues for BoogCommand {
-    ghost use Rattle.boog_run.specs.Words.{boog, boog_from};
-
-    ghost called = { boog };
+    ghost use Rattle.boog_run.specs.Words.{boog_from};
 
     ghost asked = { boog_from };
-
-    fn entry() -> Entry {
-        BOOG_ENTRY
-    }
 
     fn from_values(alloc: Global, values: &Values) -> Result<Self, WordsError> {
         Ok(BoogCommand {

@@ -14,7 +14,8 @@ use boom_opt::{BoomError, Optimised, optimise};
 use machine_core::{Machine, machine_size};
 use std::alloc::{AllocError, Global};
 use tool_drive::{
-    Product, Refusal, Status, Tool, Wanted, bytes_at, check_size, count_text, file_name, refused,
+    Answer, Product, Refusal, Status, Tool, Wanted, bytes_at, check_size, count_text, file_name,
+    refused,
 };
 use vbe_io::read_vbe;
 use vbe_laws::source_has_few_names;
@@ -126,12 +127,7 @@ impl Tool for BoomCommand {
         Ok(Vec::new(alloc))
     }
 
-    fn judge(
-        &self,
-        alloc: Global,
-        first: &[FileBytes],
-        _more: &[FileBytes],
-    ) -> Result<Product, Refusal> {
+    fn judge(&self, alloc: Global, first: &[FileBytes], _more: &[FileBytes]) -> Answer {
         made_smaller(alloc, self, bytes_at(first, 0))
     }
 }

@@ -22,15 +22,9 @@ pub const BOOM_ENTRY: Entry = Entry {
 };
 
 impl FromValues for BoomCommand {
-    ghost use Rattle.boom_run.specs.Words.{boom, boom_from};
-
-    ghost called = { boom };
+    ghost use Rattle.boom_run.specs.Words.{boom_from};
 
     ghost asked = { boom_from };
-
-    fn entry() -> Entry {
-        BOOM_ENTRY
-    }
 
     fn from_values(alloc: Global, values: &Values) -> Result<Self, WordsError> {
         Ok(BoomCommand {

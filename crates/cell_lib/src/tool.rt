@@ -4,7 +4,7 @@ ghost use Rattle.std.specs.Prelude.{◌≡◌, ◌-◌, [], get_or, length};
 use crate::{catal_file, library_status, named_files, read_library};
 use cell_checks::Library;
 use std::alloc::{AllocError, Global};
-use tool_drive::{Product, Refusal, Tool, Wanted, bytes_at};
+use tool_drive::{Answer, Refusal, Tool, Wanted, bytes_at};
 use vlsi_base::{FileBytes, FileName};
 
 /// A tool that reads files of its own and a library, and refuses a bad library before it looks at the files.
@@ -37,12 +37,7 @@ pub trait LibraryTool {
 
     /// What its files come to, with a library that is read: `first` are its own files, and behind them CATAL. No file is read or
     /// written.
-    fn judge_with(
-        &self,
-        alloc: Global,
-        library: &Library,
-        first: &[FileBytes],
-    ) -> Result<Product, Refusal>
+    fn judge_with(&self, alloc: Global, library: &Library, first: &[FileBytes]) -> Answer
         requires { IsRead library.now }
         ensures { (more : List (List ℕ)) → IsLibraryOf false (get_or first.now (length (files self.now)) []) more library.now
             → IsJudged (answers self.now (inputs first.now more)) result };
@@ -81,12 +76,7 @@ impl<T: LibraryTool> Tool for WithLibrary<'_, T> {
         named_files(alloc, self.0.library_folder(), catal_in(first))
     }
 
-    fn judge(
-        &self,
-        alloc: Global,
-        first: &[FileBytes],
-        more: &[FileBytes],
-    ) -> Result<Product, Refusal> {
+    fn judge(&self, alloc: Global, first: &[FileBytes], more: &[FileBytes]) -> Answer {
         match read_library(alloc, catal_in(first), more, false) {
             Ok(library) => self.0.judge_with(alloc, &library, first),
             Err(error) => Err(Refusal::plain(library_status(error))),

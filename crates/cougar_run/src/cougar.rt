@@ -13,7 +13,7 @@ use cell_lib::{LibraryTool, library_law};
 use cougar_extract::{ExtractError, extract, extracted_fits};
 use std::alloc::{AllocError, Global};
 use tool_drive::{
-    Product, Refusal, Status, Verdict, Wanted, bytes_at, refused, unknown_cell, whole_fault,
+    Answer, Product, Refusal, Status, Verdict, Wanted, bytes_at, refused, unknown_cell, whole_fault,
 };
 use vbe_writable::cell_can_be_written;
 use vlsi_base::{FaultKind, FileBytes, FileName};
@@ -105,12 +105,7 @@ impl LibraryTool for CougarCommand {
         &self.library
     }
 
-    fn judge_with(
-        &self,
-        alloc: Global,
-        library: &Library,
-        first: &[FileBytes],
-    ) -> Result<Product, Refusal> {
+    fn judge_with(&self, alloc: Global, library: &Library, first: &[FileBytes]) -> Answer {
         extracted(alloc, self, library, bytes_at(first, 0))
     }
 

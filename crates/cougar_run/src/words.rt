@@ -22,15 +22,9 @@ pub const COUGAR_ENTRY: Entry = Entry {
 };
 
 impl FromValues for CougarCommand {
-    ghost use Rattle.cougar_run.specs.Words.{cougar, cougar_from};
-
-    ghost called = { cougar };
+    ghost use Rattle.cougar_run.specs.Words.{cougar_from};
 
     ghost asked = { cougar_from };
-
-    fn entry() -> Entry {
-        COUGAR_ENTRY
-    }
 
     fn from_values(alloc: Global, values: &Values) -> Result<Self, WordsError> {
         Ok(CougarCommand {

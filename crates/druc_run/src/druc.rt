@@ -12,7 +12,9 @@ use cell_checks::Library;
 use cell_lib::LibraryTool;
 use druc_rules::{Breach, DrucError, Rules, broken, standard_rules_law};
 use std::alloc::{AllocError, Global};
-use tool_drive::{Product, Refusal, Status, Verdict, Wanted, bytes_at, refused, unknown_cell};
+use tool_drive::{
+    Answer, Product, Refusal, Status, Verdict, Wanted, bytes_at, refused, unknown_cell,
+};
 use vlsi_base::{FileBytes, FileName};
 
 // How a refusal is told.
@@ -95,12 +97,7 @@ impl LibraryTool for DrucCommand {
         &self.library
     }
 
-    fn judge_with(
-        &self,
-        alloc: Global,
-        library: &Library,
-        first: &[FileBytes],
-    ) -> Result<Product, Refusal> {
+    fn judge_with(&self, alloc: Global, library: &Library, first: &[FileBytes]) -> Answer {
         checked(alloc, self, library, bytes_at(first, 0))
     }
 

@@ -20,15 +20,9 @@ pub const DRUC_ENTRY: Entry = Entry {
 };
 
 impl FromValues for DrucCommand {
-    ghost use Rattle.druc_run.specs.Words.{druc, druc_from};
-
-    ghost called = { druc };
+    ghost use Rattle.druc_run.specs.Words.{druc_from};
 
     ghost asked = { druc_from };
-
-    fn entry() -> Entry {
-        DRUC_ENTRY
-    }
 
     fn from_values(alloc: Global, values: &Values) -> Result<Self, WordsError> {
         Ok(DrucCommand {

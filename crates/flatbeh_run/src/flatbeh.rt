@@ -15,7 +15,9 @@ use cell_pins::pin_table;
 use machine_core::Machine;
 use net_flat::{FlatError, flatbeh};
 use std::alloc::{AllocError, Global};
-use tool_drive::{Product, Refusal, Status, Verdict, Wanted, bytes_at, named_fault, refused};
+use tool_drive::{
+    Answer, Product, Refusal, Status, Verdict, Wanted, bytes_at, named_fault, refused,
+};
 use vlsi_base::{FaultKind, FileBytes, FileName, Limit, LimitKind, Name};
 use vst_io::read_vst;
 
@@ -133,12 +135,7 @@ impl LibraryTool for FlatbehCommand {
         &self.library
     }
 
-    fn judge_with(
-        &self,
-        alloc: Global,
-        library: &Library,
-        first: &[FileBytes],
-    ) -> Result<Product, Refusal> {
+    fn judge_with(&self, alloc: Global, library: &Library, first: &[FileBytes]) -> Answer {
         flattened(alloc, self, library, bytes_at(first, 0))
     }
 

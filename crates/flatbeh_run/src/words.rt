@@ -22,15 +22,9 @@ pub const FLATBEH_ENTRY: Entry = Entry {
 };
 
 impl FromValues for FlatbehCommand {
-    ghost use Rattle.flatbeh_run.specs.Words.{flatbeh, flatbeh_from};
-
-    ghost called = { flatbeh };
+    ghost use Rattle.flatbeh_run.specs.Words.{flatbeh_from};
 
     ghost asked = { flatbeh_from };
-
-    fn entry() -> Entry {
-        FLATBEH_ENTRY
-    }
 
     fn from_values(alloc: Global, values: &Values) -> Result<Self, WordsError> {
         Ok(FlatbehCommand {

@@ -3,7 +3,7 @@ ghost use Rattle.std.specs.Prelude.{◌≡◌, Some, None, IfOk, IsErrOf};
 ghost use Rattle.tool_words.specs.declared.words.WordsError.TheVariants.{Usage};
 ghost use Rattle.flow_run.specs.Commands.{command_of};
 
-use flow_words::{FlowCommand, GenCommand};
+use flow_words::{FLOW_ENTRY, FlowCommand, GEN_ENTRY, GenCommand};
 use std::alloc::Global;
 use tool_run::{Command as ToolCommand, read_command};
 use tool_words::{Words, WordsError, is_same, read_asked};
@@ -26,10 +26,10 @@ pub fn read_words(alloc: Global, words: &Words) -> Result<Command, WordsError>
         return Err(WordsError::Usage);
     };
     if is_same(b"flow", tool.as_bytes()) {
-        return Ok(Command::Flow(read_asked(alloc, rest)?));
+        return Ok(Command::Flow(read_asked(alloc, FLOW_ENTRY, rest)?));
     }
     if is_same(b"gen", tool.as_bytes()) {
-        return Ok(Command::Gen(read_asked(alloc, rest)?));
+        return Ok(Command::Gen(read_asked(alloc, GEN_ENTRY, rest)?));
     }
     Ok(Command::Tool(read_command(alloc, words)?))
 }

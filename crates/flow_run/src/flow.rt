@@ -30,7 +30,9 @@ use loon_drive::Driven;
 use machine_core::Machine;
 use std::alloc::{AllocError, Global};
 use syf_run::{Encoded, encoded_law, encoded_machine, style_of};
-use tool_drive::{Product, Refusal, Status, Tool, Wanted, bytes_at, check_size, drive, refused};
+use tool_drive::{
+    Answer, Product, Refusal, Status, Tool, Wanted, bytes_at, check_size, drive, refused,
+};
 use vbe_io::read_vbe;
 use vbe_laws::source_has_few_names;
 use vlsi_base::{FileBytes, ReadError};
@@ -237,12 +239,7 @@ impl Tool for Flow<'_> {
         named_files(alloc, &self.command.library, bytes_at(first, 1))
     }
 
-    fn judge(
-        &self,
-        alloc: Global,
-        first: &[FileBytes],
-        more: &[FileBytes],
-    ) -> Result<Product, Refusal> {
+    fn judge(&self, alloc: Global, first: &[FileBytes], more: &[FileBytes]) -> Answer {
         laid_out(
             alloc,
             self.command,

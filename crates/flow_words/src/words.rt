@@ -157,15 +157,9 @@ fn flow_with(
 }
 
 impl FromValues for FlowCommand {
-    ghost use Rattle.flow_words.specs.Words.{flow, flow_from};
-
-    ghost called = { flow };
+    ghost use Rattle.flow_words.specs.Words.{flow_from};
 
     ghost asked = { flow_from };
-
-    fn entry() -> Entry {
-        FLOW_ENTRY
-    }
 
     fn from_values(alloc: Global, values: &Values) -> Result<Self, WordsError> {
         let source = source(alloc, values, FLOW_ENTRY.endings)?;
@@ -175,15 +169,9 @@ impl FromValues for FlowCommand {
 }
 
 impl FromValues for GenCommand {
-    ghost use Rattle.flow_words.specs.Words.{gen, gen_from};
-
-    ghost called = { gen };
+    ghost use Rattle.flow_words.specs.Words.{gen_from};
 
     ghost asked = { gen_from };
-
-    fn entry() -> Entry {
-        GEN_ENTRY
-    }
 
     fn from_values(alloc: Global, values: &Values) -> Result<Self, WordsError> {
         let size = number(values, SIZE)?;

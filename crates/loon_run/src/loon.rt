@@ -19,7 +19,7 @@ use loon_drive::{Driven, drive_netlist};
 use loon_fanout::BufferError;
 use net_core::Netlist;
 use std::alloc::{AllocError, Global};
-use tool_drive::{Kind, Product, Refusal, Status, Wanted, bytes_at, refused};
+use tool_drive::{Answer, Kind, Product, Refusal, Status, Wanted, bytes_at, refused};
 use vlsi_base::{FileBytes, FileName, Limit, LimitKind};
 use vst_io::read_vst;
 
@@ -128,12 +128,7 @@ impl LibraryTool for LoonCommand {
         &self.library
     }
 
-    fn judge_with(
-        &self,
-        alloc: Global,
-        library: &Library,
-        first: &[FileBytes],
-    ) -> Result<Product, Refusal> {
+    fn judge_with(&self, alloc: Global, library: &Library, first: &[FileBytes]) -> Answer {
         limited(alloc, self, library, bytes_at(first, 0))
     }
 

@@ -26,15 +26,9 @@ pub const LOON_ENTRY: Entry = Entry {
 };
 
 impl FromValues for LoonCommand {
-    ghost use Rattle.loon_run.specs.Words.{loon, loon_from};
-
-    ghost called = { loon };
+    ghost use Rattle.loon_run.specs.Words.{loon_from};
 
     ghost asked = { loon_from };
-
-    fn entry() -> Entry {
-        LOON_ENTRY
-    }
 
     fn from_values(alloc: Global, values: &Values) -> Result<Self, WordsError> {
         Ok(LoonCommand {

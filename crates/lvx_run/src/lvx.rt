@@ -14,7 +14,7 @@ use cell_pins::pin_table;
 use lvx_compare::{Verdict as Compared, compare};
 use net_core::{Netlist, PinTable};
 use std::alloc::{AllocError, Global};
-use tool_drive::{Product, Refusal, Status, Verdict, Wanted, bytes_at, refused};
+use tool_drive::{Answer, Product, Refusal, Status, Verdict, Wanted, bytes_at, refused};
 use vlsi_base::{FileBytes, FileName};
 use vst_io::read_vst;
 
@@ -101,12 +101,7 @@ impl LibraryTool for LvxCommand {
         &self.library
     }
 
-    fn judge_with(
-        &self,
-        alloc: Global,
-        library: &Library,
-        first: &[FileBytes],
-    ) -> Result<Product, Refusal> {
+    fn judge_with(&self, alloc: Global, library: &Library, first: &[FileBytes]) -> Answer {
         compared(alloc, self, library, first)
     }
 

@@ -31,15 +31,9 @@ pub const LVX_ENTRY: Entry = Entry {
 };
 
 impl FromValues for LvxCommand {
-    ghost use Rattle.lvx_run.specs.Words.{lvx, lvx_from};
-
-    ghost called = { lvx };
+    ghost use Rattle.lvx_run.specs.Words.{lvx_from};
 
     ghost asked = { lvx_from };
-
-    fn entry() -> Entry {
-        LVX_ENTRY
-    }
 
     fn from_values(alloc: Global, values: &Values) -> Result<Self, WordsError> {
         Ok(LvxCommand {

@@ -10,7 +10,7 @@ use crate::words::ProofCommand;
 use machine_core::Machine;
 use proof_cmp::{ProofVerdict, ProveError, prove};
 use std::alloc::{AllocError, Global};
-use tool_drive::{Product, Refusal, Status, Tool, Verdict, Wanted, bytes_at, refused};
+use tool_drive::{Answer, Product, Refusal, Status, Tool, Verdict, Wanted, bytes_at, refused};
 use vbe_io::read_vbe;
 use vbe_laws::source_has_few_names;
 use vlsi_base::{FileBytes, FileName};
@@ -131,12 +131,7 @@ impl Tool for ProofCommand {
         Ok(Vec::new(alloc))
     }
 
-    fn judge(
-        &self,
-        alloc: Global,
-        first: &[FileBytes],
-        _more: &[FileBytes],
-    ) -> Result<Product, Refusal> {
+    fn judge(&self, alloc: Global, first: &[FileBytes], _more: &[FileBytes]) -> Answer {
         compared(alloc, self, bytes_at(first, 0), bytes_at(first, 1))
     }
 }

@@ -33,15 +33,9 @@ pub const PROOF_ENTRY: Entry = Entry {
 };
 
 impl FromValues for ProofCommand {
-    ghost use Rattle.proof_run.specs.Words.{proof, proof_from};
-
-    ghost called = { proof };
+    ghost use Rattle.proof_run.specs.Words.{proof_from};
 
     ghost asked = { proof_from };
-
-    fn entry() -> Entry {
-        PROOF_ENTRY
-    }
 
     fn from_values(alloc: Global, values: &Values) -> Result<Self, WordsError> {
         Ok(ProofCommand {

@@ -13,7 +13,7 @@ use fsm_core::StateMachine;
 use fsm_io::read_fsm;
 use fsm_laws::{machine_has_few_signals, machine_of_fsm_can_be_written};
 use std::alloc::{AllocError, Global};
-use tool_drive::{Product, Refusal, Tool, Wanted, bytes_at, file_name, refused};
+use tool_drive::{Answer, Product, Refusal, Tool, Wanted, bytes_at, file_name, refused};
 use vbe_print::write_vbe;
 use vlsi_base::FileBytes;
 
@@ -77,12 +77,7 @@ impl Tool for SyfCommand {
         Ok(Vec::new(alloc))
     }
 
-    fn judge(
-        &self,
-        alloc: Global,
-        first: &[FileBytes],
-        _: &[FileBytes],
-    ) -> Result<Product, Refusal> {
+    fn judge(&self, alloc: Global, first: &[FileBytes], _: &[FileBytes]) -> Answer {
         encodes(alloc, self, bytes_at(first, 0))
     }
 }

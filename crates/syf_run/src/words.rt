@@ -26,15 +26,9 @@ pub const SYF_ENTRY: Entry = Entry {
 };
 
 impl FromValues for SyfCommand {
-    ghost use Rattle.syf_run.specs.Words.{syf, syf_from};
-
-    ghost called = { syf };
+    ghost use Rattle.syf_run.specs.Words.{syf_from};
 
     ghost asked = { syf_from };
-
-    fn entry() -> Entry {
-        SYF_ENTRY
-    }
 
     fn from_values(alloc: Global, values: &Values) -> Result<Self, WordsError> {
         Ok(SyfCommand {

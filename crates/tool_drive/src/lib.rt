@@ -21,5 +21,5 @@ pub use report::{count_line, count_text, file_name, push_number};
 pub use run::drive;
 pub use size::{MOST_SIZE, check_size};
 pub use status::{FileCause, LibraryFault, Status, Verdict};
-pub use tool::{Product, Refusal, Tool, Wanted, Written, bytes_at};
+pub use tool::{Answer, Product, Refusal, Tool, Wanted, Written, bytes_at};
 pub use vlsi_base::Kind;

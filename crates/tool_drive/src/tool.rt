@@ -91,6 +91,9 @@ impl From<AllocError> for Refusal {
     }
 }
 
+/// What a tool answers: a product, or why there is none.
+pub type Answer = Result<Product, Refusal>;
+
 /// One tool, with what the words ask of it.
 pub trait Tool {
     ghost use Rattle.std.specs.Prelude.{Result};
@@ -116,12 +119,7 @@ pub trait Tool {
         ensures { IfOk result (λ wanted. wanted.items ≡ (plan self.now).more first.now) };
 
     /// What stands in them comes to this. No file is read or written.
-    fn judge(
-        &self,
-        alloc: Global,
-        first: &[FileBytes],
-        more: &[FileBytes],
-    ) -> Result<Product, Refusal>
+    fn judge(&self, alloc: Global, first: &[FileBytes], more: &[FileBytes]) -> Answer
         requires first { length first.now ≡ length (plan self.now).first }
         requires more { length more.now ≡ length ((plan self.now).more first.now) }
         ensures { IsJudged (answers self.now (inputs first.now more.now)) result };

@@ -64,34 +64,34 @@ fn read_behind(alloc: Global, tool: &[u8], words: &[Text]) -> Result<Command, Wo
     ensures usage { IsErrOf result Usage → command_by (tool_named tools tool.now) words.now ≡ None }
 {
     if is_same(b"syf", tool) {
-        return Ok(Command::Syf(read_asked(alloc, words)?));
+        return Ok(Command::Syf(read_asked(alloc, SYF_ENTRY, words)?));
     }
     if is_same(b"boom", tool) {
-        return Ok(Command::Boom(read_asked(alloc, words)?));
+        return Ok(Command::Boom(read_asked(alloc, BOOM_ENTRY, words)?));
     }
     if is_same(b"boog", tool) {
-        return Ok(Command::Boog(read_asked(alloc, words)?));
+        return Ok(Command::Boog(read_asked(alloc, BOOG_ENTRY, words)?));
     }
     if is_same(b"loon", tool) {
-        return Ok(Command::Loon(read_asked(alloc, words)?));
+        return Ok(Command::Loon(read_asked(alloc, LOON_ENTRY, words)?));
     }
     if is_same(b"asimut", tool) {
-        return Ok(Command::Asimut(read_asked(alloc, words)?));
+        return Ok(Command::Asimut(read_asked(alloc, ASIMUT_ENTRY, words)?));
     }
     if is_same(b"cougar", tool) {
-        return Ok(Command::Cougar(read_asked(alloc, words)?));
+        return Ok(Command::Cougar(read_asked(alloc, COUGAR_ENTRY, words)?));
     }
     if is_same(b"lvx", tool) {
-        return Ok(Command::Lvx(read_asked(alloc, words)?));
+        return Ok(Command::Lvx(read_asked(alloc, LVX_ENTRY, words)?));
     }
     if is_same(b"druc", tool) {
-        return Ok(Command::Druc(read_asked(alloc, words)?));
+        return Ok(Command::Druc(read_asked(alloc, DRUC_ENTRY, words)?));
     }
     if is_same(b"proof", tool) {
-        return Ok(Command::Proof(read_asked(alloc, words)?));
+        return Ok(Command::Proof(read_asked(alloc, PROOF_ENTRY, words)?));
     }
     if is_same(b"flatbeh", tool) {
-        return Ok(Command::Flatbeh(read_asked(alloc, words)?));
+        return Ok(Command::Flatbeh(read_asked(alloc, FLATBEH_ENTRY, words)?));
     }
     Err(WordsError::Usage)
 }

@@ -39,13 +39,3 @@ spells e f words texts values same text fine is =
 
 pub misspells : {A : Type 0} (e : Entry) (f : Given → Option A) (words texts : List (List ℕ)) → texts ≡ words → (faults e texts ≡ [] → ⊥) → spelled e f words ≡ None
 misspells e f words texts same wrong = wrong_words e f words (λ fine. wrong (subst (λ (ws : List (List ℕ)). faults e ws ≡ []) (sym same) fine))
-
--- ---- for an entry that is the tool's
-
-pub read_so : {A : Type 0} (e called : Entry) (f : Given → Option A) (words texts : List (List ℕ)) (values : Given) (P : Option A → Type 0) → e ≡ called → texts ≡ words
-    → list_all is_utf8 words ≡ true → faults e texts ≡ [] → values ≡ given e texts → P (f values) → P (spelled called f words)
-read_so e called f words texts values P entry same text fine is holds =
-    subst (λ (k : Entry). P (spelled k f words)) entry (subst P (sym (spells e f words texts values same text fine is)) holds)
-
-pub unread_so : {A : Type 0} (e called : Entry) (f : Given → Option A) (words texts : List (List ℕ)) → e ≡ called → texts ≡ words → (faults e texts ≡ [] → ⊥) → spelled called f words ≡ None
-unread_so e called f words texts entry same wrong = subst (λ (k : Entry). spelled k f words ≡ None) entry (misspells e f words texts same wrong)

@@ -1,7 +1,9 @@
 // Commands, from the words behind a tool's.
-ghost use Rattle.std.specs.Prelude.{◌≡◌, Some, None, IfOk, IsErrOf};
+ghost use Rattle.std.specs.Prelude.{◌≡◌, true, Some, None, IfOk, IsErrOf};
 ghost use Rattle.tool_words.specs.declared.words.WordsError.TheVariants.{Usage};
+ghost use Rattle.tool_words.specs.Arguments.{is_exact};
 ghost use Rattle.tool_words.specs.Spelling.{spelled};
+ghost use Rattle.tool_words.specs.View.{entry_view};
 
 use crate::arguments::{taken, texts};
 use crate::table::Entry;
@@ -10,24 +12,14 @@ use crate::words::WordsError;
 use std::alloc::Global;
 use vlsi_base::Text;
 
-/// What a tool is asked to do, by its words.
+/// What a tool is asked to do, by the values of its words.
 pub trait FromValues: Sized {
-    ghost use Rattle.std.specs.Prelude.{◌≡◌, true, Option, Some, None, IfOk, IsErrOf};
+    ghost use Rattle.std.specs.Prelude.{◌≡◌, Option, Some, None, IfOk, IsErrOf};
     ghost use Rattle.tool_words.specs.declared.words.WordsError.TheVariants.{Usage};
-    ghost use Rattle.tool_words.specs.Table.{Entry};
-    ghost use Rattle.tool_words.specs.Arguments.{Given, is_exact};
-    ghost use Rattle.tool_words.specs.View.{entry_view};
+    ghost use Rattle.tool_words.specs.Arguments.{Given};
 
-    /// How the tool is called.
-    ghost called: { Entry };
-
-    /// What its values ask for; none where one of them isn't there, or isn't of its form.
+    /// What the values ask for; nothing where one of them isn't there, or isn't of its form.
     ghost asked: { Given → Option Self };
-
-    /// How the tool is called. `clap`'s own clauses are exact for it.
-    fn entry() -> Entry
-        ensures called { entry_view result ≡ called }
-        ensures exact { is_exact called ≡ true };
 
     /// What the values ask for. `Usage` exactly where they ask for nothing. It takes memory for what it answers.
     fn from_values(alloc: Global, values: &Values) -> Result<Self, WordsError>
@@ -35,13 +27,18 @@ pub trait FromValues: Sized {
         ensures usage { IsErrOf result Usage → asked values.now ≡ None };
 }
 
-/// What the words behind a tool's ask of it. `Usage` exactly where they are nothing of its form. It takes memory for what it answers.
-pub fn read_asked<C: FromValues>(alloc: Global, words: &[Text]) -> Result<C, WordsError>
-    ensures ok { IfOk result (λ c. spelled C.called C.asked words.now ≡ Some c) }
-    ensures usage { IsErrOf result Usage → spelled C.called C.asked words.now ≡ None }
+/// What the words behind a tool's ask of it, by its entry. `Usage` exactly where they are nothing of its form. It takes memory for what
+/// it answers.
+pub fn read_asked<C: FromValues>(
+    alloc: Global,
+    entry: Entry,
+    words: &[Text],
+) -> Result<C, WordsError>
+    requires { is_exact (entry_view entry) ≡ true }
+    ensures ok { IfOk result (λ c. spelled (entry_view entry) C.asked words.now ≡ Some c) }
+    ensures usage { IsErrOf result Usage → spelled (entry_view entry) C.asked words.now ≡ None }
 {
     let texts = texts(alloc, words)?;
-    let entry = C::entry();
     let values = taken(alloc, entry, texts.as_slice())?;
     C::from_values(alloc, &values)
 }
