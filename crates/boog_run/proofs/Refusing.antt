@@ -1,22 +1,14 @@
 -- From the refusals of readers and of mapping to the tool's.
 use Rattle.std.proofs.Common.{◌≡◌, ℕ, List, None, Err, false, sym, subst, refl}
-use Rattle.vlsi_base.specs.declared.fault.ReadError.{ReadError}
 use Rattle.machine_core.specs.Machine.{Machine}
-use Rattle.vbe_io.specs.Text.{IsVbe, IsVbeRefusal}
+use Rattle.vbe_io.specs.Text.{IsVbe}
 use Rattle.cell_model.specs.Library.{Library}
 use Rattle.cell_lib.specs.Library.{IsLibraryOf}
 use Rattle.boog_run.specs.declared.words.BoogCommand.{BoogCommand}
 use Rattle.tool_drive.specs.declared.status.Status.{Status}
 use Rattle.tool_drive.specs.Table.{IsJudged, IsFair, refusal}
-use Rattle.tool_drive.specs.Refusals.{MemoryOr, OfFile, of_file, judged_file, judged}
-use Rattle.boog_run.specs.Boog.{IsNoNetlist, too_large, no_cover, bad_source, no_netlist, Maps}
-
-pub by_source : (c : BoogCommand) (source list : List ℕ) (cells : List (List ℕ)) (l : Library) (e : ReadError) (s : Status)
-    → IsLibraryOf false list cells l → IsVbeRefusal source e → MemoryOr s (OfFile c.source (λ x. x ≡ e) s)
-    → IsJudged (Maps c source list cells) (Err (refusal s None))
-by_source c source list cells l e s library h k =
-    judged_file (Maps c source list cells) c.source (IsVbeRefusal source) s (of_file c.source (IsVbeRefusal source) e h s k)
-    (λ o. (refl, bad_source l library o))
+use Rattle.tool_drive.specs.Refusals.{MemoryOr, judged}
+use Rattle.boog_run.specs.Boog.{IsNoNetlist, too_large, no_cover, no_netlist, Maps}
 
 -- a machine without a netlist is refused by a status of judging
 fair : (l : Library) (m : Machine) (s : Status) (P : Type 0) → IsNoNetlist l m s → P → IsFair s None P

@@ -1,9 +1,7 @@
 -- From the refusals of readers, of extraction and of writing to the tool's.
 use Rattle.std.proofs.Common.{◌≡◌, inl, inr, ℕ, List, None, Err, false, sym, subst, refl}
-use Rattle.vlsi_base.specs.declared.fault.ReadError.{ReadError}
 use Rattle.ap_io.specs.declared.figure.Figure.{Figure}
 use Rattle.ap_io.specs.ApText.{IsApText}
-use Rattle.ap_io.specs.Refusal.{IsApRefusal}
 use Rattle.cell_model.specs.Library.{Library}
 use Rattle.cell_lib.specs.Library.{IsLibraryOf}
 use Rattle.net_core.specs.Netlist.{Netlist}
@@ -17,15 +15,11 @@ use Rattle.cougar_extract.specs.Refused.{CanBeNumbered, NoShort, IsExtractRefusa
 use Rattle.cougar_run.specs.declared.words.CougarCommand.{CougarCommand}
 use Rattle.tool_drive.specs.declared.status.Status.{Status}
 use Rattle.tool_drive.specs.Table.{IsJudged, IsFair, refusal}
-use Rattle.tool_drive.specs.Refusals.{MemoryOr, OfFile, of_file, judged_file, judged}
-use Rattle.cougar_run.specs.Cougar.{bad_layout, unknown_cell, too_large, many_terminals, shorted, bad_map, Extracts, IsToldOf, IsWriteToldOf}
+use Rattle.tool_drive.specs.Refusals.{MemoryOr, judged}
+use Rattle.cougar_run.specs.Cougar.{unknown_cell, too_large, many_terminals, shorted, bad_map, Extracts, IsToldOf, IsWriteToldOf}
 
 module _ (c : CougarCommand) (source list : List ℕ) (cells : List (List ℕ)) where
   module _ (l : Library) (library : IsLibraryOf false list cells l) where
-    pub by_layout : (e : ReadError) (s : Status) → IsApRefusal source e → MemoryOr s (OfFile c.source (λ x. x ≡ e) s) → IsJudged (Extracts c source list cells) (Err (refusal s None))
-    by_layout e s h k =
-        judged_file (Extracts c source list cells) c.source (IsApRefusal source) s (of_file c.source (IsApRefusal source) e h s k) (λ o. (refl, bad_layout l library o))
-
     module _ (f : Figure) (figure : IsApText source f) where
       told_extract : (e : ExtractError) → IsExtractRefusal f l e → (t : Status) → IsToldOf c e t → IsFair t None (Extracts c source list cells (Err (refusal t None)))
       told_extract extracting.Memory h t k = absurd k

@@ -1,9 +1,7 @@
 -- From the refusals of readers and of the rules' check to the tool's, and from the breaches to its answer.
 use Rattle.std.proofs.Common.{◌≡◌, ℕ, ◌<◌, ◌^◌, List, length, map, None, Result, Ok, Err, false, refl, sym, subst}
-use Rattle.vlsi_base.specs.declared.fault.ReadError.{ReadError}
 use Rattle.ap_io.specs.declared.figure.Figure.{Figure}
 use Rattle.ap_io.specs.ApText.{IsApText}
-use Rattle.ap_io.specs.Refusal.{IsApRefusal}
 use Rattle.cell_model.specs.Library.{Library}
 use Rattle.cell_model.specs.Layout.{instances_of, shapes}
 use Rattle.cell_lib.specs.Library.{IsLibraryOf}
@@ -18,15 +16,11 @@ use Rattle.tool_drive.specs.declared.status.Status.{Status}
 use Rattle.tool_drive.specs.declared.tool.Product.{Product}
 use Rattle.tool_drive.specs.declared.tool.Refusal.{Refusal}
 use Rattle.tool_drive.specs.Table.{IsJudged, IsFair, refusal}
-use Rattle.tool_drive.specs.Refusals.{MemoryOr, OfFile, of_file, judged_file, judged, fair_then}
-use Rattle.druc_run.specs.Druc.{AreListed, bad_layout, unknown_cell, too_large, broken, Checks, IsToldOf, IsAnswerOf}
+use Rattle.tool_drive.specs.Refusals.{MemoryOr, judged, fair_then}
+use Rattle.druc_run.specs.Druc.{AreListed, unknown_cell, too_large, broken, Checks, IsToldOf, IsAnswerOf}
 
 module _ (c : DrucCommand) (source list : List ℕ) (cells : List (List ℕ)) where
   module _ (l : Library) (library : IsLibraryOf false list cells l) where
-    pub by_layout : (e : ReadError) (s : Status) → IsApRefusal source e → MemoryOr s (OfFile c.source (λ x. x ≡ e) s) → IsJudged (Checks c source list cells) (Err (refusal s None))
-    by_layout e s h k =
-        judged_file (Checks c source list cells) c.source (IsApRefusal source) s (of_file c.source (IsApRefusal source) e h s k) (λ o. (refl, bad_layout l library o))
-
     module _ (f : Figure) (figure : IsApText source f) where
       told : (e : DrucError) (s : Status) → IsBrokenRefusal f.items l e → IsToldOf c e s → IsFair s None (Checks c source list cells (Err (refusal s None)))
       told ruling.Memory s h k = absurd k

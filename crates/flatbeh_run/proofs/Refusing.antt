@@ -2,7 +2,6 @@
 use Rattle.std.proofs.Common.{◌≡◌, ◌<◌, ◌≤◌, ◌^◌, ℕ, true, List, [], ◌∷◌, length, None, Err, false, sym, ap, ◌∙◌, subst, refl}
 use Rattle.vlsi_base.specs.declared.fault.FaultKind.TheVariants as kind
 use Rattle.vlsi_base.specs.declared.fault.LimitKind.TheVariants.{Bits}
-use Rattle.vlsi_base.specs.declared.fault.ReadError.{ReadError}
 use Rattle.vlsi_base.specs.declared.name.Name.{Name}
 use Rattle.machine_core.specs.Machine.{Machine}
 use Rattle.cell_model.specs.Library.{Library}
@@ -15,20 +14,16 @@ use Rattle.net_flat.specs.declared.error.FlatError.{FlatError}
 use Rattle.net_flat.specs.declared.error.FlatError.TheVariants as flat
 use Rattle.net_flat.specs.Answers.{IsFlatRefusal}
 use Rattle.net_flat.specs.Flat.{IsPlain, AreApart, IsFlat}
-use Rattle.vst_io.specs.Text.{IsVst, IsVstRefusal}
+use Rattle.vst_io.specs.Text.{IsVst}
 use Rattle.flatbeh_run.specs.declared.words.FlatbehCommand.{FlatbehCommand}
 use Rattle.tool_drive.specs.declared.status.Status.{Status}
 use Rattle.tool_drive.specs.declared.status.Status.TheVariants as status
 use Rattle.tool_drive.specs.Table.{IsJudged, IsFair, refusal}
-use Rattle.tool_drive.specs.Refusals.{whole_fault, MemoryOr, OfFile, of_file, judged_file, judged}
-use Rattle.flatbeh_run.specs.Flatbeh.{HasVectorClock, bad_netlist, no_behaviour, twice, many_bits, many_names, vector_clock, names_count, Flattens, IsToldOf}
+use Rattle.tool_drive.specs.Refusals.{whole_fault, MemoryOr, judged}
+use Rattle.flatbeh_run.specs.Flatbeh.{HasVectorClock, no_behaviour, twice, many_bits, many_names, vector_clock, names_count, Flattens, IsToldOf}
 
 module _ (c : FlatbehCommand) (source list : List ℕ) (cells : List (List ℕ)) where
   module _ (l : Library) (table : List ModelPins) (library : IsLibraryOf false list cells l) (pins : IsTableOf l true table) where
-    pub by_netlist : (e : ReadError) (s : Status) → IsVstRefusal source table e → MemoryOr s (OfFile c.source (λ x. x ≡ e) s) → IsJudged (Flattens c source list cells) (Err (refusal s None))
-    by_netlist e s h k =
-        judged_file (Flattens c source list cells) c.source (IsVstRefusal source table) s (of_file c.source (IsVstRefusal source table) e h s k) (λ o. (refl, bad_netlist l table library pins o))
-
     module _ (n : Netlist) (netlist : IsVst source table n) where
       told_flat : (e : FlatError) → IsFlatRefusal n l e → (t : Status) → IsToldOf c e t → IsFair t None (Flattens c source list cells (Err (refusal t None)))
       told_flat flat.Memory h t k = absurd k

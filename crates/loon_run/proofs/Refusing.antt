@@ -1,12 +1,11 @@
 -- From the refusals of readers and of buffering to the tool's.
 use Rattle.std.proofs.Common.{◌≡◌, ℕ, ◌^◌, ◌<◌, ◌≤◌, length, List, None, Err, false, sym, subst, refl}
-use Rattle.vlsi_base.specs.declared.fault.ReadError.{ReadError}
 use Rattle.cell_model.specs.Library.{Library}
 use Rattle.cell_lib.specs.Library.{IsLibraryOf}
 use Rattle.cell_pins.specs.Table.{IsTableOf}
 use Rattle.net_core.specs.declared.pins.ModelPins.{ModelPins}
 use Rattle.net_core.specs.Netlist.{Netlist, terminals}
-use Rattle.vst_io.specs.Text.{IsVst, IsVstRefusal}
+use Rattle.vst_io.specs.Text.{IsVst}
 use Rattle.loon_fanout.specs.declared.error.BufferError.{BufferError}
 use Rattle.loon_fanout.specs.declared.error.BufferError.TheVariants as error
 use Rattle.loon_fanout.specs.Limited.{IsBufferRefusal}
@@ -14,15 +13,11 @@ use Rattle.loon_drive.specs.Driven.{most_sinks}
 use Rattle.loon_run.specs.declared.words.LoonCommand.{LoonCommand}
 use Rattle.tool_drive.specs.declared.status.Status.{Status}
 use Rattle.tool_drive.specs.Table.{IsJudged, IsFair, refusal}
-use Rattle.tool_drive.specs.Refusals.{MemoryOr, OfFile, of_file, judged_file, judged}
-use Rattle.loon_run.specs.Loon.{bad_netlist, many_pins, no_buffer, HasRoom, pins_limit, Limits, IsToldOf}
+use Rattle.tool_drive.specs.Refusals.{MemoryOr, judged}
+use Rattle.loon_run.specs.Loon.{many_pins, no_buffer, HasRoom, pins_limit, Limits, IsToldOf}
 
 module _ (c : LoonCommand) (source list : List ℕ) (cells : List (List ℕ)) where
   module _ (l : Library) (table : List ModelPins) (library : IsLibraryOf false list cells l) (pins : IsTableOf l false table) where
-    pub by_netlist : (e : ReadError) (s : Status) → IsVstRefusal source table e → MemoryOr s (OfFile c.source (λ x. x ≡ e) s) → IsJudged (Limits c source list cells) (Err (refusal s None))
-    by_netlist e s h k =
-        judged_file (Limits c source list cells) c.source (IsVstRefusal source table) s (of_file c.source (IsVstRefusal source table) e h s k) (λ o. (refl, bad_netlist l table library pins o))
-
     module _ (n : Netlist) (netlist : IsVst source table n) where
       pub by_room : (s : Status) → (0 < length n.instances) × (2 ^ 27 ≤ length (terminals n)) × (s ≡ pins_limit n) → IsJudged (Limits c source list cells) (Err (refusal s None))
       by_room s h =

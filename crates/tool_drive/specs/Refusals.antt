@@ -63,3 +63,8 @@ judged_file A file R status.Memory k f = refl
 judged_file A file R (status.Source name fault) k f = f k
 judged_file A file R (status.Limit l) k f = f k
 judged_file A file R _ k f = absurd k
+
+-- what a tool refuses so, is one that it may answer
+pub refused_file : (A : Result Product Refusal → Type 0) (file : List ℕ) (R : ReadError → Type 0) (error : ReadError) (s : Status) (r : Refusal) → R error
+    → MemoryOr s (OfFile file (λ e. e ≡ error) s) → r ≡ refusal s None → (OfFile file R s → A (Err (refusal s None))) → IsJudged A (Err r)
+refused_file A file R error s r h k plain f = subst (λ (x : Refusal). IsJudged A (Err x)) (sym plain) (judged_file A file R s (of_file file R error h s k) f)

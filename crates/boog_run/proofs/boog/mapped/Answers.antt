@@ -1,10 +1,12 @@
-use Rattle.std.proofs.Common.{Err, sym, subst}
+use Rattle.std.proofs.Common.{Err, sym, subst, refl}
+use Rattle.vbe_io.specs.Text.{IsVbeRefusal}
+use Rattle.tool_drive.specs.Refusals.{refused_file}
 use Rattle.tool_drive.specs.declared.tool.Refusal.{Refusal}
 use Rattle.tool_drive.specs.Table.{IsJudged}
-use Rattle.boog_run.specs.Boog.{Maps}
+use Rattle.boog_run.specs.Boog.{bad_source, Maps}
 use Rattle.boog_run.proofs.Mapping.{mapping}
 use Rattle.boog_run.proofs.Naming.{writable}
-use Rattle.boog_run.proofs.Refusing.{by_source, by_netlist}
+use Rattle.boog_run.proofs.Refusing.{by_netlist}
 use Rattle.boog_run.proofs.Sizes.{few_ports}
 use Rattle.boog_run.proofs.boog.mapped.Goals as goal
 
@@ -20,9 +22,8 @@ product-requires c =
 
 pub returns-in-Err : goal.returns-in-Err
 returns-in-Err c = λ catal cells library.
-    subst (λ (r : Refusal). IsJudged (Maps c.args.command.now c.args.source.now catal cells) (Err r)) (sym c.plain.ensures)
-    (by_source c.args.command.now c.args.source.now catal cells c.args.library.now c.in-Err.error c.refused.result library
-    c.in-Err.ensures.refused c.refused.ensures)
+    refused_file (Maps c.args.command.now c.args.source.now catal cells) c.args.command.now.source (IsVbeRefusal c.args.source.now) c.in-Err.error c.refused.result c.plain.result c.in-Err.ensures.refused
+    c.refused.ensures c.plain.ensures (λ o. (refl, bad_source c.args.library.now library o))
 
 pub returns-in-Err-netlist_of : goal.returns-in-Err-netlist_of
 returns-in-Err-netlist_of c = λ catal cells library.

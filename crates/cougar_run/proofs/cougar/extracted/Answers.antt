@@ -1,9 +1,11 @@
-use Rattle.std.proofs.Common.{false, Err, sym, subst}
+use Rattle.std.proofs.Common.{false, Err, sym, subst, refl}
+use Rattle.ap_io.specs.Refusal.{IsApRefusal}
+use Rattle.tool_drive.specs.Refusals.{refused_file}
 use Rattle.tool_drive.specs.declared.tool.Refusal.{Refusal}
 use Rattle.tool_drive.specs.Table.{IsJudged}
-use Rattle.cougar_run.specs.Cougar.{Extracts}
+use Rattle.cougar_run.specs.Cougar.{bad_layout, Extracts}
 use Rattle.cougar_extract.proofs.Ready.{ready_figure}
-use Rattle.cougar_run.proofs.Refusing.{by_layout, by_extract, by_write}
+use Rattle.cougar_run.proofs.Refusing.{by_extract, by_write}
 use Rattle.cougar_run.proofs.Writing.{writable, extraction}
 use Rattle.cougar_run.proofs.cougar.extracted.Goals as goal
 
@@ -18,9 +20,8 @@ product-requires c =
 
 pub returns-in-Err : goal.returns-in-Err
 returns-in-Err c = λ catal cells library.
-    subst (λ (r : Refusal). IsJudged (Extracts c.args.command.now c.args.source.now catal cells) (Err r)) (sym c.plain.ensures)
-    (by_layout c.args.command.now c.args.source.now catal cells c.args.library.now library c.in-Err.error c.refused.result
-    c.in-Err.ensures.refused c.refused.ensures)
+    refused_file (Extracts c.args.command.now c.args.source.now catal cells) c.args.command.now.source (IsApRefusal c.args.source.now) c.in-Err.error c.refused.result c.plain.result c.in-Err.ensures.refused
+    c.refused.ensures c.plain.ensures (λ o. (refl, bad_layout c.args.library.now library o))
 
 pub returns-in-Err-extract : goal.returns-in-Err-extract
 returns-in-Err-extract c = λ catal cells library.

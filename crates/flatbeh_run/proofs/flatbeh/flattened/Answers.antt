@@ -1,17 +1,18 @@
-use Rattle.std.proofs.Common.{true, Err, sym, subst, arith}
+use Rattle.std.proofs.Common.{true, Err, sym, subst, arith, refl}
+use Rattle.vst_io.specs.Text.{IsVstRefusal}
+use Rattle.tool_drive.specs.Refusals.{refused_file}
 use Rattle.tool_drive.specs.declared.tool.Refusal.{Refusal}
 use Rattle.tool_drive.specs.Table.{IsJudged}
 use Rattle.machine_core.specs.Checked.{IsChecked}
 use Rattle.vst_laws.proofs.Supplies.{lists_supplies}
-use Rattle.flatbeh_run.specs.Flatbeh.{Flattens}
-use Rattle.flatbeh_run.proofs.Refusing.{by_netlist, by_flat, by_names, by_clock}
+use Rattle.flatbeh_run.specs.Flatbeh.{bad_netlist, Flattens}
+use Rattle.flatbeh_run.proofs.Refusing.{by_flat, by_names, by_clock}
 use Rattle.flatbeh_run.proofs.flatbeh.flattened.Goals as goal
 
 pub returns-in-Err : goal.returns-in-Err
 returns-in-Err c = λ catal cells library.
-    subst (λ (r : Refusal). IsJudged (Flattens c.args.command.now c.args.source.now catal cells) (Err r)) (sym c.plain.ensures)
-    (by_netlist c.args.command.now c.args.source.now catal cells c.args.library.now c.in_ok-table.table library c.in_ok-table.ensures.table c.in-Err.error
-    c.refused.result c.in-Err.ensures.refused c.refused.ensures)
+    refused_file (Flattens c.args.command.now c.args.source.now catal cells) c.args.command.now.source (IsVstRefusal c.args.source.now c.in_ok-table.table) c.in-Err.error c.refused.result c.plain.result c.in-Err.ensures.refused
+    c.refused.ensures c.plain.ensures (λ o. (refl, bad_netlist c.args.library.now c.in_ok-table.table library c.in_ok-table.ensures.table o))
 
 pub flatbeh-requires : goal.flatbeh-requires
 flatbeh-requires c =

@@ -1,16 +1,17 @@
-use Rattle.std.proofs.Common.{false, Err, sym, subst}
+use Rattle.std.proofs.Common.{false, Err, sym, subst, refl}
+use Rattle.vst_io.specs.Text.{IsVstRefusal}
+use Rattle.tool_drive.specs.Refusals.{refused_file}
 use Rattle.tool_drive.specs.declared.tool.Refusal.{Refusal}
 use Rattle.tool_drive.specs.Table.{IsJudged}
-use Rattle.loon_run.specs.Loon.{Limits}
+use Rattle.loon_run.specs.Loon.{bad_netlist, Limits}
 use Rattle.vst_laws.proofs.Supplies.{lists_supplies}
-use Rattle.loon_run.proofs.Refusing.{by_netlist, by_room, by_drive}
+use Rattle.loon_run.proofs.Refusing.{by_room, by_drive}
 use Rattle.loon_run.proofs.loon.limited.Goals as goal
 
 pub returns-in-Err : goal.returns-in-Err
 returns-in-Err c = λ catal cells library.
-    subst (λ (r : Refusal). IsJudged (Limits c.args.command.now c.args.source.now catal cells) (Err r)) (sym c.plain.ensures)
-    (by_netlist c.args.command.now c.args.source.now catal cells c.args.library.now c.in_ok-table.table library c.in_ok-table.ensures.table c.in-Err.error
-    c.refused.result c.in-Err.ensures.refused c.refused.ensures)
+    refused_file (Limits c.args.command.now c.args.source.now catal cells) c.args.command.now.source (IsVstRefusal c.args.source.now c.in_ok-table.table) c.in-Err.error c.refused.result c.plain.result c.in-Err.ensures.refused
+    c.refused.ensures c.plain.ensures (λ o. (refl, bad_netlist c.args.library.now c.in_ok-table.table library c.in_ok-table.ensures.table o))
 
 pub returns-in-Err-check_room : goal.returns-in-Err-check_room
 returns-in-Err-check_room c = λ catal cells library.
