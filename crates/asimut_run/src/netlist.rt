@@ -1,5 +1,5 @@
 // `asimut` as a tool: patterns run on a netlist of library cells.
-ghost use Rattle.std.specs.Prelude.{◌≡◌, [], ℕ, List, get_or, IfOk, false};
+ghost use Rattle.std.specs.Prelude.{[], ℕ, List, get_or, false};
 ghost use Rattle.cell_lib.specs.Library.{IsLibraryOf};
 ghost use Rattle.tool_drive.specs.Table.{IsJudged};
 ghost use Rattle.net_machine.specs.Signals.{MeetsConditionWith};

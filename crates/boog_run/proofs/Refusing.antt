@@ -1,5 +1,5 @@
 -- From the refusals of readers and of mapping to the tool's.
-use Rattle.std.proofs.Common.{◌≡◌, ℕ, List, None, Err, false, sym, subst, refl}
+use Rattle.std.proofs.Common.{ℕ, List, None, Err, false, sym, subst, refl}
 use Rattle.machine_core.specs.Machine.{Machine}
 use Rattle.vbe_io.specs.Text.{IsVbe}
 use Rattle.cell_model.specs.Library.{Library}

@@ -1,5 +1,5 @@
 -- The files of a tool that reads some of its own and a library.
-use Rattle.std.proofs.Common.{◌≡◌, ◌-◌, ℕ, List, [], ◌∷◌, length, get_or, false, Err, ap, ◌∙◌, subst, arith, length-append}
+use Rattle.std.proofs.Common.{◌≡◌, ◌-◌, ℕ, List, [], ◌∷◌, length, get_or, ap, ◌∙◌, arith, length-append}
 use Rattle.tool_drive.specs.declared.tool.Wanted.{Wanted}
 use Rattle.tool_drive.specs.Plan.{limited}
 use Rattle.catal.specs.Cells.{cells_in}

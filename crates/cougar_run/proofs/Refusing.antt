@@ -1,5 +1,5 @@
 -- From the refusals of readers, of extraction and of writing to the tool's.
-use Rattle.std.proofs.Common.{◌≡◌, inl, inr, ℕ, List, None, Err, false, sym, subst, refl}
+use Rattle.std.proofs.Common.{inl, inr, ℕ, List, None, Err, false, sym, subst, refl}
 use Rattle.ap_io.specs.declared.figure.Figure.{Figure}
 use Rattle.ap_io.specs.ApText.{IsApText}
 use Rattle.cell_model.specs.Library.{Library}

@@ -1,5 +1,5 @@
 -- From the refusals of readers and of the rules' check to the tool's, and from the breaches to its answer.
-use Rattle.std.proofs.Common.{◌≡◌, ℕ, ◌<◌, ◌^◌, List, length, map, None, Result, Ok, Err, false, refl, sym, subst}
+use Rattle.std.proofs.Common.{ℕ, ◌<◌, ◌^◌, List, length, map, None, Result, Ok, Err, false, refl, sym, subst}
 use Rattle.ap_io.specs.declared.figure.Figure.{Figure}
 use Rattle.ap_io.specs.ApText.{IsApText}
 use Rattle.cell_model.specs.Library.{Library}

@@ -1,7 +1,7 @@
 // The lines of breaches.
 ghost use Rattle.std.specs.Prelude.{◌≡◌, ◌∷◌, ◌++◌, IfOk, OnOk};
 ghost use Rattle.std.specs.Fmt.{signed_decimal};
-ghost use Rattle.druc_run.specs.Report.{rect_text, breach_text, breaches_text, report as report_of};
+ghost use Rattle.druc_run.specs.Report.{rect_text, breach_text, report as report_of};
 
 use druc_rules::Breach;
 use std::alloc::{AllocError, Global};

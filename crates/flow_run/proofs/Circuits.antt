@@ -1,5 +1,5 @@
 -- Runs of `gen`: what is written of a circuit is never refused, the headline, and when an answer of 0 has to come.
-use Rattle.std.proofs.Common.{◌≡◌, ◌⊎◌, inl, inr, ℕ, ◌-◌, ◌==◌, ◌≤◌, Bool, true, false, cond, not, List, [], ◌∷◌, ◌++◌, drop, length, Option, None, Some, option_map, IfSome, Result, Ok, Err, codes, nat_eq, length-append, refl, sym, ap, subst, ◌∙◌, arith}
+use Rattle.std.proofs.Common.{◌≡◌, ◌⊎◌, inl, inr, ℕ, ◌-◌, ◌≤◌, Bool, true, false, cond, List, [], ◌∷◌, ◌++◌, drop, length, Option, None, Some, option_map, IfSome, Result, Ok, Err, codes, nat_eq, length-append, refl, sym, ap, subst, ◌∙◌, arith}
 use Rattle.std.specs.List.{ends_with}
 use Rattle.std.specs.FinMap.{get, insert, get-insert, slice_cmp-IsAntisymmetric, nat_cmp-IsAntisymmetric}
 use Rattle.std.specs.Ordering.{nat_cmp, is_eq}
@@ -8,22 +8,16 @@ use Rattle.std.specs.Cmp.Lexicographic.{pointwise, slice_cmp, nat_list_cmp_total
 use Rattle.std.specs.declared.cmp.Ordering.{Ordering}
 use Rattle.std.specs.declared.cmp.Ordering.TheVariants.{Less, Equal, Greater}
 use Rattle.std.proofs.Math.Seq.{drop-append_seam}
-use Rattle.std.proofs.lemmas.List.{length-map}
-use Rattle.vlsi_base.specs.Member.{In}
 use Rattle.vlsi_base.specs.declared.fault.ReadError.TheVariants as errors
 use Rattle.vlsi_shelf.specs.Files.{Files}
 use Rattle.vlsi_shelf.specs.Counts.{Rose, NoneFalls}
 use Rattle.vlsi_shelf.specs.Shelf.{Writes}
 use Rattle.vlsi_shelf.specs.Sink.{Puts}
-use Rattle.machine_core.specs.Machine.{Machine, register_names}
-use Rattle.machine_core.specs.Alike.{IsAlike, AlikeRun, AlikeBothWays}
+use Rattle.machine_core.specs.Machine.{Machine}
+use Rattle.machine_core.specs.Alike.{AlikeRun, AlikeBothWays}
 use Rattle.catal.specs.Laws.{NeverBoth as NeverBothLists}
-use Rattle.vlsi_base.specs.declared.kind.Kind.{Kind}
-use Rattle.cell_model.specs.Covering.{HasCellOf, needed}
-use Rattle.cell_model.specs.Library.{Library}
-use Rattle.cell_lib.specs.Library.{bad_cell, IsLibraryOf}
+use Rattle.cell_lib.specs.Library.{bad_cell}
 use Rattle.flow_run.specs.OneLibrary.{LibraryIsNeverRefused, LibrariesCoverTheSame}
-use Rattle.boog_map.specs.Netlist.{Covers}
 use Rattle.vbe_io.specs.Text.{IsVbe}
 use Rattle.vbe_laws.specs.OneMachine.{MachinesWeighTheSame}
 use Rattle.vbe_roots.specs.Law.{MachinesHaveTheSameDags, MachinesCountTheSame, MachinesAreWithinTheSame, InnerSignalsWeighTheSame}

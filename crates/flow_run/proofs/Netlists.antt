@@ -1,5 +1,5 @@
 -- A library that covers a machine covers each that is alike.
-use Rattle.std.proofs.Common.{◌≡◌, ℕ, ◌+◌, ◌≤◌, ◌==◌, not, List, length, ap, subst, arith}
+use Rattle.std.proofs.Common.{◌≡◌, ℕ, ◌==◌, not, length, ap, subst, arith}
 use Rattle.std.proofs.lemmas.List.{length-map}
 use Rattle.vlsi_base.specs.Member.{In}
 use Rattle.machine_core.specs.Machine.{Machine, register_names}
@@ -7,7 +7,7 @@ use Rattle.machine_core.specs.Alike.{IsAlike}
 use Rattle.vlsi_base.specs.declared.kind.Kind.{Kind}
 use Rattle.cell_model.specs.Covering.{HasCellOf, needed}
 use Rattle.cell_model.specs.Library.{Library}
-use Rattle.boog_map.specs.Netlist.{has_registers, Covers}
+use Rattle.boog_map.specs.Netlist.{Covers}
 
 -- as many registers, so the same kinds are asked for
 pub covers_alike : (l : Library) (m k : Machine) → IsAlike m k → Covers l m → Covers l k

@@ -1,5 +1,5 @@
 -- What is drawn of a netlist.
-use Rattle.std.specs.Prelude.{◌≡◌, ℕ, ◌*◌, ◌+◌, ◌≤◌, true, false, List, length, ◌++◌, codes, Some}
+use Rattle.std.specs.Prelude.{◌≡◌, ℕ, ◌+◌, ◌≤◌, true, List, ◌++◌, codes, Some}
 use Rattle.machine_core.specs.Machine.{Machine}
 use Rattle.machine_core.specs.Size.{machine_size}
 use Rattle.machine_core.specs.Checked.{IsChecked}

@@ -1,5 +1,5 @@
 // The layout of a netlist: placed in one row, drawn with private tracks, and written.
-ghost use Rattle.std.specs.Prelude.{◌≡◌, IfOk, true, false};
+ghost use Rattle.std.specs.Prelude.{◌≡◌, IfOk, true};
 ghost use Rattle.cell_checks.specs.Checked.{IsChecked as HasPassed};
 ghost use Rattle.machine_roots.specs.Roots.{IsGreatestDcount};
 ghost use Rattle.ocp_place.specs.Drawable.{IsDrawableIn};

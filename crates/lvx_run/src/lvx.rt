@@ -1,5 +1,5 @@
 // `lvx` as a tool: what it reads, and what it answers.
-ghost use Rattle.std.specs.Prelude.{◌≡◌, [], ℕ, List, get_or, IfOk, IfErr, false};
+ghost use Rattle.std.specs.Prelude.{[], ℕ, List, get_or, IfOk, IfErr, false};
 ghost use Rattle.cell_lib.specs.Library.{IsLibraryOf};
 ghost use Rattle.net_core.specs.Checks.{IsPinTable};
 ghost use Rattle.vst_io.specs.Text.{IsVst};

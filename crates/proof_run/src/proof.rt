@@ -1,5 +1,5 @@
 // `proof` as a tool: what it reads, and what it answers.
-ghost use Rattle.std.specs.Prelude.{◌≡◌, ◌<◌, ◌^◌, ℕ, List, IfOk, IfErr, length};
+ghost use Rattle.std.specs.Prelude.{◌<◌, ◌^◌, ℕ, List, IfOk, IfErr, length};
 ghost use Rattle.vbe_io.specs.Text.{IsVbe, IsVbeRefusal};
 ghost use Rattle.proof_joint.specs.Clock.{as_compared};
 ghost use Rattle.tool_drive.specs.Refusals.{MemoryOr, OfFile};

@@ -1,5 +1,5 @@
 -- A text is made one machine by one style.
-use Rattle.std.proofs.Common.{◌≡◌, ℕ, ◌<◌, ◌≤◌, Bool, true, false, List, codes, inl, inr, refl, sym, ap, subst, ◌∙◌, arith}
+use Rattle.std.proofs.Common.{◌≡◌, ℕ, ◌<◌, true, false, List, codes, inl, inr, sym, ap, subst, ◌∙◌, arith}
 use Rattle.std.proofs.lemmas.Bool.{cases_lt}
 use Rattle.machine_core.specs.Machine.{Machine}
 use Rattle.text_names.specs.Free.{is_free, candidate, IsFirstFree}
@@ -7,7 +7,6 @@ use Rattle.fsm_machine.specs.Fsm.{Fsm}
 use Rattle.fsm_machine.specs.Codes.{Codes}
 use Rattle.fsm_machine.specs.MachineOf.{machine_of}
 use Rattle.fsm_io.specs.Laws.{OneFsm}
-use Rattle.syf_encode.specs.declared.style.Style.{Style}
 use Rattle.syf_encode.specs.Codes.{codes_by}
 use Rattle.syf_machine.specs.Named.{port_texts, inner_names, IsMachineOf}
 use Rattle.syf_run.specs.Laws.{EncodedIsOne}

@@ -17,7 +17,6 @@ use Rattle.vbe_print.specs.Written.{layout}
 use Rattle.tool_words.specs.declared.values.Encoding.{Encoding}
 use Rattle.tool_words.specs.declared.values.Encoding.TheVariants as encoding
 use Rattle.syf_run.specs.declared.words.SyfCommand.{SyfCommand}
-use Rattle.tool_drive.specs.declared.status.Status.{Status}
 use Rattle.tool_drive.specs.declared.tool.Product.{Product}
 use Rattle.tool_drive.specs.declared.tool.Refusal.{Refusal}
 use Rattle.tool_drive.specs.Plan.{Plan, Inputs, limited}

@@ -1,6 +1,5 @@
 -- What holds of each tool of a table.
 use Rattle.std.proofs.Common.{◌≡◌, ℕ, Bool, true, false, cond, List, [], ◌∷◌, Option, None, Some, option_map, refl, sym, subst, ◌∙◌, ap}
-use Rattle.std.specs.List.{find}
 use Rattle.std.specs.Cmp.Lexicographic.{bytes_decides}
 use Rattle.tool_words.specs.Words.{is_word}
 use Rattle.tool_words.specs.Table.{Entry}

@@ -1,5 +1,4 @@
-use Rattle.std.proofs.Common.{◌≡◌, Err, sym, ◌∙◌, ap, subst, arith}
-use Rattle.fsm_machine.specs.Codes.{Codes}
+use Rattle.std.proofs.Common.{Err, sym, ◌∙◌, ap, subst, arith}
 use Rattle.syf_encode.specs.declared.style.Style.{Style}
 use Rattle.syf_encode.specs.Codes.{codes_by}
 use Rattle.tool_drive.specs.declared.tool.Refusal.{Refusal}
