@@ -1,5 +1,5 @@
 -- A machine does as it is compared what it does itself.
-use Rattle.std.proofs.Common.{◌≡◌, ℕ, ◌+◌, ◌<◌, ◌≤◌, Bool, false, not, List, [], ◌∷◌, ◌++◌, length, map, filter, replicate, Option, None, Some, All, refl, sym, ap, ◌∙◌, subst, arith, length-append, if◌then◌else◌}
+use Rattle.std.proofs.Common.{◌≡◌, ℕ, ◌+◌, ◌<◌, ◌≤◌, Bool, true, false, not, List, [], ◌∷◌, ◌++◌, length, map, filter, replicate, Option, None, Some, All, refl, sym, ap, ◌∙◌, subst, arith, length-append, if◌then◌else◌}
 use Rattle.std.specs.Prelude.{◌↔◌, slice_index, nat_lt}
 use Rattle.std.specs.List.{slice_index_or}
 use Rattle.std.proofs.lemmas.List.{append-nil, length-map, length-replicate}
@@ -7,14 +7,13 @@ use Rattle.std.proofs.lemmas.List.Elements.{All-nil, All-cons, All-head, All-tai
 use Rattle.vlsi_base.specs.declared.name.Name.{Name}
 use Rattle.vlsi_base.specs.Member.{In, here, there, AllDifferent}
 use Rattle.bool_expr.specs.Expression.{bit, val}
-use Rattle.machine_core.specs.Named.{is_same_name, value_at, values_at}
+use Rattle.machine_core.specs.Named.{value_at, values_at}
 use Rattle.machine_core.specs.Machine.{Machine, Equation, Register, is_clock, input_ports, inputs, outputs, register_names}
 use Rattle.machine_core.specs.Runs.{Trace}
 use Rattle.machine_core.specs.Cycles.{Settles, outs, next, RunOf, AreVectors}
 use Rattle.machine_core.specs.Order.{held_names, equation_names, EachReadsBelow, IsOrdered}
 use Rattle.machine_core.specs.Checked.{IsChecked}
 use Rattle.machine_core.proofs.Known.{known}
-use Rattle.machine_core.proofs.Names.{same_name-itself}
 use Rattle.machine_core.proofs.Solve.{given, length-given, values_at-given, settles_once_known}
 use Rattle.machine_core.proofs.Runs.{itself}
 use Rattle.machine_core.proofs.Values.{In-left, In-right, bit-value_at}
@@ -107,7 +106,7 @@ module _ (m : Machine) (clock : Name) (checked : IsChecked m) (bare : m.register
   ports_different : AllDifferent (input_ports m)
   ports_different = left_different (input_ports m) (equation_names m) read_ordered.different
 
-  one_more : length m.vars + 1 ≤ length read.vars
+  one_more : length m.vars + 1 ≤ length (input_ports m ++ equation_names m)
   one_more =
       let all = ap length checked.ordered.vars in
       let old = length-append (held_names m) (equation_names m) in
@@ -116,9 +115,10 @@ module _ (m : Machine) (clock : Name) (checked : IsChecked m) (bare : m.register
       omega (arith, all, old, new, s)
 
   number_low : (k : ℕ) → k < length m.vars → number place k < length read.vars
-  number_low k low = by (nat_lt k place) where
-    by : (b : Bool) → (if b then k else k + 1) < length read.vars
-    by b = let more = one_more in elim b [ true ↦ omega (arith, low, more) | false ↦ omega (arith, low, more) ]
+  number_low k low = by (nat_lt k place) one_more where
+    by : (b : Bool) → length m.vars + 1 ≤ length (input_ports m ++ equation_names m) → (if b then k else k + 1) < length (input_ports m ++ equation_names m)
+    by true more = omega (arith, low, more)
+    by false more = omega (arith, low, more)
 
   -- the bits of the machine's own names
   abbrev own : List Bool → List Bool
@@ -129,7 +129,8 @@ module _ (m : Machine) (clock : Name) (checked : IsChecked m) (bare : m.register
       let here_is : slice_index_or read.vars (number place k) clock ≡ slice_index_or m.vars k clock =
       left_out clock (input_ports m) (equation_names m) k clock ports_different (checked.clock clock is).port
       ∙ ap (λ (l : List Name). slice_index_or l k clock) (sym vars_are) in
-      ap (bit v) (numbers_at place 0 (length m.vars) k low)
+      let e : 0 + k ≡ k = omega arith in
+      ap (bit v) (numbers_at place 0 (length m.vars) k low ∙ ap (number place) e)
       ∙ bit-value_at read.vars v (number place k) clock read_ordered.different long (number_low k low)
       ∙ ap (value_at read.vars v) here_is
       ∙ sym (bit_of (value_at read.vars v) m.vars k clock low)

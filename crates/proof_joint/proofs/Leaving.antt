@@ -1,7 +1,8 @@
 -- Names and numbers where one is left out, and expressions over numbers that are so changed.
-use Rattle.std.proofs.Common.{◌≡◌, ℕ, zero, suc, ◌+◌, ◌<◌, Bool, true, false, not, List, [], ◌∷◌, ◌++◌, length, map, filter, refl, sym, ap, ◌∙◌, subst, arith, if◌then◌else◌}
+use Rattle.std.proofs.Common.{◌≡◌, inl, inr, ℕ, zero, suc, ◌+◌, ◌<◌, ◌≤◌, Bool, true, false, not, List, [], ◌∷◌, ◌++◌, length, map, filter, refl, sym, ap, ◌∙◌, subst, arith, if◌then◌else◌}
 use Rattle.std.specs.Prelude.{nat_lt, slice_index}
 use Rattle.std.specs.List.{slice_index_or}
+use Rattle.std.proofs.lemmas.Bool.{lt-ltb, le-ltb, cases_lt, cond-true, cond-false}
 use Rattle.vlsi_base.specs.declared.name.Name.{Name}
 use Rattle.vlsi_base.specs.Member.{In, here, there, AllDifferent}
 use Rattle.vlsi_base.specs.Range.{rising}
@@ -40,22 +41,28 @@ bit_of f (x ∷ names) (suc k) d h = bit_of f names k d (omega (arith, h))
 
 pub numbers_at : (place a n j : ℕ) → j < n → slice_index (map (number place) (rising a n)) j ≡ number place (a + j)
 numbers_at place a zero j h = absurd (omega (arith, h))
-numbers_at place a (suc n) zero h = ap (number place) (omega arith)
-numbers_at place a (suc n) (suc j) h = numbers_at place (a + 1) n j (omega (arith, h)) ∙ ap (number place) (omega arith)
+numbers_at place a (suc n) zero h = let e : a ≡ a + 0 = omega arith in ap (number place) e
+numbers_at place a (suc n) (suc j) h =
+    let e : a + 1 + j ≡ a + suc j = omega arith in
+    numbers_at place (a + 1) n j (omega (arith, h)) ∙ ap (number place) e
 
-number_first : (k : ℕ) → number zero k ≡ suc k
-number_first zero = omega arith
-number_first (suc k) = omega arith
+number_below : (place k : ℕ) → k < place → number place k ≡ k
+number_below place k low = cond-true (nat_lt k place) k (k + 1) (lt-ltb k place low)
+
+number_above : (place k : ℕ) → place ≤ k → number place k ≡ k + 1
+number_above place k high = cond-false (nat_lt k place) k (k + 1) (le-ltb k place high)
 
 number_later : (place k : ℕ) → number (suc place) (suc k) ≡ suc (number place k)
-number_later place k = by (nat_lt k place) where
-  by : (b : Bool) → (if b then suc k else suc k + 1) ≡ suc (if b then k else k + 1)
-  by true = refl
-  by false = omega arith
+number_later place k = elim (cases_lt k place) [
+  | inl low ↦ number_below (suc place) (suc k) (omega (arith, low)) ∙ sym (ap suc (number_below place k low))
+  | inr high ↦
+      let e : suc k + 1 ≡ suc (k + 1) = omega arith in
+      number_above (suc place) (suc k) (omega (arith, high)) ∙ e ∙ sym (ap suc (number_above place k high))
+]
 
 -- ---- the names without one of them
 
-abbrev without : Name → List Name → List Name
+abbrev pub without : Name → List Name → List Name
 without c names = filter (λ n. not (is_same_name c n)) names
 
 none_out : (c : Name) (names : List Name) → (In c names → ⊥) → without c names ≡ names
@@ -69,13 +76,14 @@ pub left_out : (c : Name) (xs ys : List Name) (k : ℕ) (d : Name) → AllDiffer
     → slice_index_or (xs ++ ys) (number (name_place c xs) k) d ≡ slice_index_or (without c xs ++ ys) k d
 left_out c [] ys k d different h = elim h [ ]
 left_out c (x ∷ xs) ys k d different h = by (is_same_name x c) refl where
-  first : is_same_name x c ≡ true → slice_index_or ((x ∷ xs) ++ ys) (number zero k) d ≡ slice_index_or (without c (x ∷ xs) ++ ys) k d
+  first : is_same_name x c ≡ true → slice_index_or ((x ∷ xs) ++ ys) (number 0 k) d ≡ slice_index_or (without c (x ∷ xs) ++ ys) k d
   first e =
       let same : x ≡ c = same_name-true x c e in
       let gone : without c (x ∷ xs) ≡ without c xs =
       ap (λ (b : Bool). if not b then x ∷ without c xs else without c xs) (ap (is_same_name c) same ∙ same_name-itself c) in
+      let next_number : number 0 k ≡ suc k = (let e : k + 1 ≡ suc k = omega arith in number_above 0 k (omega arith) ∙ e) in
       let all : without c xs ≡ xs = none_out c xs (subst (λ (y : Name). In y xs → ⊥) same different.0) in
-      ap (λ (j : ℕ). slice_index_or ((x ∷ xs) ++ ys) j d) (number_first k) ∙ ap (λ (l : List Name). slice_index_or (l ++ ys) k d) (sym (gone ∙ all))
+      ap (λ (j : ℕ). slice_index_or ((x ∷ xs) ++ ys) j d) next_number ∙ ap (λ (l : List Name). slice_index_or (l ++ ys) k d) (sym (gone ∙ all))
 
   kept : is_same_name x c ≡ false → without c (x ∷ xs) ≡ x ∷ without c xs
   kept e =
@@ -89,7 +97,7 @@ left_out c (x ∷ xs) ys k d different h = by (is_same_name x c) refl where
 
   second : (j : ℕ) → ((i : ℕ) → slice_index_or (xs ++ ys) (number (name_place c xs) i) d ≡ slice_index_or (without c xs ++ ys) i d)
       → slice_index_or ((x ∷ xs) ++ ys) (number (suc (name_place c xs)) j) d ≡ slice_index_or ((x ∷ without c xs) ++ ys) j d
-  second zero rest = refl
+  second zero rest = ap (λ (i : ℕ). slice_index_or ((x ∷ xs) ++ ys) i d) (number_below (suc (name_place c xs)) zero (omega arith))
   second (suc j) rest = next j (rest j)
 
   by : (b : Bool) → is_same_name x c ≡ b → slice_index_or ((x ∷ xs) ++ ys) (number (if b then 0 else suc (name_place c xs)) k) d
