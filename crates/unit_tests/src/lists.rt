@@ -20,7 +20,7 @@ fn items_are_given_back(rt: HostRuntime) -> Result<(), Fail> {
     let items = items.into_vec();
     assert_eq!(rt; items.as_slice().len(), 1);
     let is_there = match items.as_slice().first() {
-        Some(Item::Remark(text)) => text.as_bytes() == b"ab",
+        Some(Item::Remark(text)) => text.as_bytes() == b"ab".as_slice(),
         _ => false,
     };
     assert!(rt; is_there);

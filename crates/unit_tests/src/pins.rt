@@ -1,5 +1,5 @@
 // The connector rectangles of a cell's pins, worked out by hand.
-ghost use Rattle.std.specs.Prelude.{◌≡◌, ◌<◌, ◌∷◌, [], All, IfOk, length};
+ghost use Rattle.std.specs.Prelude.{◌<◌, ◌^◌, All, IfOk, length};
 ghost use Rattle.sym_shapes.specs.Ready.{IsReady};
 ghost use Rattle.cell_model.specs.Usable.{IsFormed};
 

@@ -23,7 +23,7 @@ fn the_next_token(rt: HostRuntime) -> Result<(), Fail> {
             break;
         };
         let is_wanted = match token {
-            Token::Identifier(name) => found == 0 && name.as_bytes() == b"a",
+            Token::Identifier(name) => found == 0 && name.as_bytes() == b"a".as_slice(),
             Token::Sign(Sign::Assign) => found == 1,
             Token::Sign(Sign::Semicolon) => found == 2,
             _ => false,
