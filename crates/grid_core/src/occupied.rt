@@ -1,5 +1,5 @@
 // A table of the owners of nodes.
-ghost use Rattle.std.specs.Prelude.{◌≡◌, ◌<◌, ◌∷◌, [], IfOk, IfSome, length};
+ghost use Rattle.std.specs.Prelude.{◌≡◌, ◌<◌, ◌∷◌, [], IfOk, length};
 ghost use Rattle.grid_core.specs.Grid.{IsInGrid};
 ghost use Rattle.grid_core.specs.Numbers.{nodes, number};
 ghost use Rattle.grid_core.specs.Owners.{owner_of, IsBegun, IsTaken};
@@ -30,29 +30,24 @@ impl Model for Occupied {
     ghost invariant = { λ o. (length o.words.items ≡ nodes o.grid) × (nodes o.grid < 4294967295) };
 }
 
-/// How many nodes a grid has, if their numbers are below 2^32 - 1.
-fn count_nodes(grid: &Grid) -> Option<u32>
-    ensures { IfSome result (λ n. (n ≡ nodes grid.now) × (n < 4294967295)) }
+/// How many nodes a grid has.
+fn count_nodes(grid: &Grid) -> usize
+    requires few { nodes grid.now < 4294967295 }
+    ensures { result ≡ nodes grid.now }
 {
     let plane = u64::from(grid.columns) * u64::from(grid.rows);
     let layers = u64::from(grid.metals.saturating_sub(1));
-    let all = plane.checked_mul(layers)?;
-    if all < u64::from(NOBODY) {
-        Some(all as u32)
-    } else {
-        None
-    }
+    (plane * layers) as usize
 }
 
 impl Occupied {
-    /// No node has an owner. Takes memory for a word a node; a grid of 2^32 - 1 nodes or more is reported as want of memory.
+    /// No node has an owner. Takes memory for a word a node.
     pub fn begin(alloc: Global, grid: Grid) -> Result<Self, AllocError>
+        requires few { nodes grid < 4294967295 }
         ensures { IfOk result (λ o. IsBegun grid o) }
     {
-        let Some(count) = count_nodes(&grid) else {
-            return Err(AllocError);
-        };
-        let words = vec![in alloc; NOBODY; count as usize]?;
+        let count = count_nodes(&grid);
+        let words = vec![in alloc; NOBODY; count]?;
         Ok(Occupied { grid, words })
     }
 
