@@ -12,7 +12,7 @@ pub struct Grid {
 }
 
 /// A node of a grid. Columns and rows are counted from 0.
-#[derive(Clone, Copy, Drop)]
+#[derive(Clone, Copy, Debug, Drop)]
 pub struct Node {
     pub metal: u8,
     pub column: u32,

@@ -7,14 +7,14 @@ use crate::grid::Node;
 use std::marker::Model;
 
 /// The tree of a net: its first point, and for each later point the path that connected it, from that point back to the tree.
-#[derive(Drop)]
+#[derive(Debug, Drop)]
 pub struct NetTree {
     pub start: Node,
     pub paths: Vec<Vec<Node>>,
 }
 
 /// The trees of nets by their numbers: none where no tree has begun.
-#[derive(Drop)]
+#[derive(Debug, Drop)]
 pub struct Routes {
     trees: Vec<Option<NetTree>>,
 }
