@@ -1,0 +1,9 @@
+pub mod Lists
+pub mod Growth
+pub mod Owning
+pub mod Running
+pub mod Taking
+pub mod Reserving
+pub mod Reach
+pub mod Ranking
+pub mod Shown
