@@ -1,15 +1,15 @@
 -- Trees of least paths that grow, and what is free by one rule or another.
-use Rattle.std.proofs.Common.{◌≡◌, ◌≢◌, ℕ, ◌<◌, ◌≤◌, ◌⊎◌, inl, inr, ⊎_elim, Bool, true, false, List, [], ◌∷◌, ◌++◌, length, Option, Some, None, refl, sym, ap, ◌∙◌, subst, arith}
+use Rattle.std.proofs.Common.{◌≡◌, ◌⊎◌, inl, inr, ⊎_elim, List, [], ◌∷◌, ◌++◌, length, Option, Some, None, sym, ◌∙◌, subst}
 use Rattle.std.specs.Prelude.{◌↔◌, flat_map, slice_get}
-use Prim.Native.Nat.{suc}
 use Rattle.vlsi_base.specs.Member.{In, here, there, AllDifferent}
 use Rattle.grid_core.specs.declared.grid.Node.{Node}
-use Rattle.grid_core.specs.Grid.{LeadsBack, IsPath, IsLeastPath, cost}
-use Rattle.grid_core.specs.Routes.{Tree, NetRoutes, tree_nodes, grown}
-use Rattle.grid_core.specs.Trees.{AreLeast, IsLeastTree, IsWhole, next_point}
+use Rattle.grid_core.specs.Grid.{LeadsBack, IsPath, IsLeastPath}
+use Rattle.grid_core.specs.Routes.{Tree, tree_nodes, grown}
+use Rattle.grid_core.specs.Trees.{AreLeast, IsLeastTree, next_point}
 use Rattle.grid_core.proofs.Lists.{In_either, In_first, In_last}
+use Rattle.grid_core.proofs.Owners.{first_or}
 use Rattle.nero_maze.specs.Routing.{IsPoint}
-use Rattle.maze_nets.proofs.Lists.{head_or, get_in}
+use Rattle.maze_nets.proofs.Lists.{get_in}
 
 -- ---- paths over nodes that are free by two rules, from trees with the same nodes
 back_moved : (free other : Node → Type 0) (tree more : List Node) → ((p : Node) → free p → other p) → ((p : Node) → In p tree → In p more)
@@ -82,13 +82,6 @@ tree_begun free [] q e f = absurd (cc e)
 tree_begun free (p ∷ points) q e f = let s : q ≡ p = cc in (s, subst free s f, tt)
 
 -- ---- nodes of a tree that grows
-flat_then : (paths : List (List Node)) (path : List Node) (x : Node) → In x (flat_map (λ path. path) (paths ++ path ∷ [])) → In x (flat_map (λ path. path) paths) ⊎ In x path
-flat_then [] path x h = ⊎_elim (λ g. inr g) (λ g. elim g [ ]) (In_either path [] x h)
-flat_then (one ∷ paths) path x h =
-    ⊎_elim (λ g. inl (In_first one (flat_map (λ path. path) paths) x g))
-    (λ g. ⊎_elim (λ a. inl (In_last one (flat_map (λ path. path) paths) x a)) (λ a. inr a) (flat_then paths path x g))
-    (In_either one (flat_map (λ path. path) (paths ++ path ∷ [])) x h)
-
 flat_old : (paths : List (List Node)) (path : List Node) (x : Node) → In x (flat_map (λ path. path) paths) → In x (flat_map (λ path. path) (paths ++ path ∷ []))
 flat_old [] path x h = elim h [ ]
 flat_old (one ∷ paths) path x h =
@@ -100,27 +93,12 @@ flat_new : (paths : List (List Node)) (path : List Node) (x : Node) → In x pat
 flat_new [] path x h = In_first path [] x h
 flat_new (one ∷ paths) path x h = In_last one (flat_map (λ path. path) (paths ++ path ∷ [])) x (flat_new paths path x h)
 
-pub grown_either : (t : Tree) (path : List Node) (x : Node) → In x (tree_nodes (grown path (Some t))) → In x (tree_nodes (Some t)) ⊎ In x path
-grown_either t path x here = inl here
-grown_either t path x (there h) = ⊎_elim (λ g. inl (there g)) (λ g. inr g) (flat_then t.paths path x h)
-
 pub grown_old : (t : Tree) (path : List Node) (x : Node) → In x (tree_nodes (Some t)) → In x (tree_nodes (grown path (Some t)))
 grown_old t path x here = here
 grown_old t path x (there h) = there (flat_old t.paths path x h)
 
 pub grown_new : (t : Tree) (path : List Node) (x : Node) → In x path → In x (tree_nodes (grown path (Some t)))
 grown_new t path x h = there (flat_new t.paths path x h)
-
--- a node of a path is free or in the tree
-back_either : (free : Node → Type 0) (tree : List Node) (q : Node) (rest : List Node) → LeadsBack free tree q rest → (x : Node) → In x (q ∷ rest) → free x ⊎ In x tree
-back_either free tree q [] h x here = inr h
-back_either free tree q [] h x (there g) = elim g [ ]
-back_either free tree q (p ∷ rest) h x here = inl h.0
-back_either free tree q (p ∷ rest) h x (there g) = back_either free tree p rest h.2 x g
-
-pub path_either : (free : Node → Type 0) (tree : List Node) (q : Node) (path : List Node) → IsPath free tree q path → (x : Node) → In x path → free x ⊎ In x tree
-path_either free tree q [] h x g = elim g [ ]
-path_either free tree q (y ∷ rest) h x g = back_either free tree y rest h.1 x g
 
 -- ---- the point that is lacking is none of those that were reached
 path_target : (free : Node → Type 0) (tree : List Node) (q x : Node) (rest : List Node) → IsPath free tree q (x ∷ rest) → x ≡ q
@@ -134,7 +112,7 @@ no_target free tree (path ∷ paths) (p ∷ points) q rest h e d i =
     ⊎_elim
     (λ s. d.0 (subst (λ (x : Node). In x points) (path_target free tree p q rest (subst (λ way. IsPath free tree p way) (sym s) h.0.leads)) (get_in points (length paths) q e)))
     (λ j. no_target free (path ++ tree) paths points q rest h.1 e d.1 j)
-    (head_or (q ∷ rest) path paths i)
+    (first_or (q ∷ rest) path paths i)
 
 pub new_point : (free : Node → Type 0) (points : List Node) (t : Tree) (q : Node) → IsLeastTree free points (Some t) → next_point points (Some t) ≡ Some q → AllDifferent points
     → IsPoint (Some t) q → ⊥

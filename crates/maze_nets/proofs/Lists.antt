@@ -1,17 +1,14 @@
 -- Members of lists of nodes and of numbers.
-use Rattle.std.proofs.Common.{◌≡◌, ◌≢◌, ℕ, zero, suc, ◌<◌, ◌⊎◌, inl, inr, ⊎_elim, List, [], ◌∷◌, ◌++◌, length, Option, Some, None, refl, sym, ap, subst, ◌∙◌, arith}
-use Rattle.std.specs.Prelude.{flat_map, slice_get, map}
+use Rattle.std.proofs.Common.{◌≡◌, ◌≢◌, ℕ, zero, suc, ◌<◌, ◌⊎◌, inl, inr, ⊎_elim, List, [], ◌∷◌, length, get_or, Option, Some, None, refl, sym, ap, subst, ◌∙◌, arith}
+use Rattle.std.specs.Prelude.{flat_map, slice_get}
 use Rattle.std.proofs.lemmas.Bool.{cases_eq}
-use Rattle.vlsi_base.specs.Member.{In, here, there, AllDifferent}
+use Rattle.vlsi_base.specs.Member.{In, here, there}
 use Rattle.grid_core.specs.declared.grid.Node.{Node}
 use Rattle.grid_core.specs.Grid.{above}
 use Rattle.grid_core.proofs.Lists.{In_either, In_first, In_last}
+use Rattle.grid_core.proofs.Owners.{first_or}
 use Rattle.maze_nets.specs.declared.points.NetPoints.{NetPoints}
 use Rattle.maze_nets.specs.Nets.{port_node, points_of, reserved_of, nodes_of, net_points, net_reserved}
-
-pub head_or : {A : Type 0} (z x : A) (xs : List A) → In z (x ∷ xs) → (z ≡ x) ⊎ In z xs
-head_or z x xs here = inl refl
-head_or z x xs (there i) = inr i
 
 abbrev made : ℕ → ℕ → ℕ → Node
 made m c r = record { metal = m; column = c; row = r }
@@ -32,7 +29,7 @@ pub cases_in : (p : Node) (xs : List Node) → In p xs ⊎ (In p xs → ⊥)
 cases_in p [] = inr (λ i. elim i [ ])
 cases_in p (x ∷ xs) = elim (cases_node p x) [
   | inl e ↦ inl (subst (λ (y : Node). In p (y ∷ xs)) e here)
-  | inr ne ↦ elim (cases_in p xs) [ inl i ↦ inl (there i) | inr out ↦ inr (λ i. ⊎_elim ne out (head_or p x xs i)) ]
+  | inr ne ↦ elim (cases_in p xs) [ inl i ↦ inl (there i) | inr out ↦ inr (λ i. ⊎_elim ne out (first_or p x xs i)) ]
 ]
 
 pub get_in : {A : Type 0} (xs : List A) (i : ℕ) (x : A) → slice_get xs i ≡ Some x → In x xs
@@ -44,6 +41,20 @@ pub get_below : {A : Type 0} (xs : List A) (i : ℕ) (x : A) → slice_get xs i 
 get_below [] i x e = absurd (cc e)
 get_below (y ∷ xs) zero x e = omega arith
 get_below (y ∷ xs) (suc i) x e = let h = get_below xs i x e in omega arith
+
+pub get_place : {A : Type 0} (xs : List A) (i : ℕ) (d : A) → i < length xs → slice_get xs i ≡ Some (get_or xs i d)
+get_place [] i d h = absurd (let no : ⊥ = omega arith in no)
+get_place (x ∷ xs) zero d h = refl
+get_place (x ∷ xs) (suc i) d h = get_place xs i d (omega arith)
+
+pub place_in : {A : Type 0} (xs : List A) (i : ℕ) (d : A) → i < length xs → In (get_or xs i d) xs
+place_in [] i d h = absurd (let no : ⊥ = omega arith in no)
+place_in (x ∷ xs) zero d h = here
+place_in (x ∷ xs) (suc i) d h = there (place_in xs i d (omega arith))
+
+-- two answers that are one
+pub some_same : (j k : ℕ) → ◌≡◌ {A = Option ℕ} (Some j) (Some k) → j ≡ k
+some_same j k e = cc
 
 -- what is reserved for a net is reserved for one that is there
 pub reserved_below : (nets : List NetPoints) (k : ℕ) (p : Node) → In p (net_reserved nets k) → k < length nets

@@ -1,22 +1,19 @@
 -- Which nodes are free for a net is told by their owners: the nets that have them in their trees or for which they are reserved.
-use Rattle.std.proofs.Common.{◌≡◌, ◌≢◌, ℕ, ◌<◌, ◌⊎◌, inl, inr, ⊎_elim, Bool, true, false, List, [], ◌∷◌, ◌++◌, length, Option, Some, None, refl, sym, ap, ◌∙◌, subst, arith, if◌then◌else◌, nat_eq}
+use Rattle.std.proofs.Common.{◌≡◌, ◌≢◌, ℕ, ◌⊎◌, inl, inr, ⊎_elim, List, length, Option, Some, None, refl, sym, ap, ◌∙◌, subst}
 use Rattle.std.specs.Prelude.{◌↔◌}
-use Rattle.std.proofs.lemmas.Bool.{cases_eq, eqb-true, eq-eqb, ne_eqb}
-use Rattle.vlsi_base.specs.Member.{In, here, there}
+use Rattle.std.proofs.lemmas.Bool.{cases_eq}
+use Rattle.vlsi_base.specs.Member.{In}
 use Rattle.grid_core.specs.declared.grid.Grid.{Grid}
 use Rattle.grid_core.specs.declared.grid.Node.{Node}
-use Rattle.grid_core.specs.Grid.{IsInGrid, IsPath, IsLeastPath}
-use Rattle.grid_core.specs.Owners.{Owners, owner_of, IsFree, IsTaken}
-use Rattle.grid_core.specs.Routes.{Tree, NetRoutes, tree_nodes, grown, with_start, with_path}
-use Rattle.grid_core.specs.Trees.{IsFreeFor, IsFreeAfter, AreRoutes}
-use Rattle.nero_maze.specs.Routing.{Routing, Move, Began, Joined, routes_of, tree_of, Begins, Connects}
+use Rattle.grid_core.specs.Grid.{IsInGrid}
+use Rattle.grid_core.specs.Owners.{owner_of, IsFree, IsTaken}
+use Rattle.grid_core.specs.Routes.{NetRoutes, tree_nodes}
+use Rattle.grid_core.specs.Trees.{IsFreeFor, IsFreeAfter}
+use Rattle.nero_maze.specs.Routing.{Routing, tree_of}
 use Rattle.maze_nets.specs.declared.points.NetPoints.{NetPoints}
-use Rattle.maze_nets.specs.Nets.{net_points, net_reserved, AreRoutable}
+use Rattle.maze_nets.specs.Nets.{net_reserved, AreRoutable}
 use Rattle.maze_nets.specs.Progress.{AreOwned}
-use Rattle.maze_nets.proofs.Lists.{cases_in, reserved_below}
-
-some_same : (j k : ℕ) → ◌≡◌ {A = Option ℕ} (Some j) (Some k) → j ≡ k
-some_same j k e = cc
+use Rattle.maze_nets.proofs.Lists.{some_same, cases_in, reserved_below}
 
 one_owner : (o : Option ℕ) (j k : ℕ) → o ≡ Some j → (o ≡ None) ⊎ (o ≡ Some k) → j ≡ k
 one_owner o j k e f = ⊎_elim (λ n. absurd (let both : ◌≡◌ {A = Option ℕ} (Some j) None = sym e ∙ n in cc both)) (λ s. some_same j k (sym e ∙ s)) f
@@ -57,12 +54,12 @@ module _ (g : Grid) (nets : List NetPoints) (r : Routing) (owned : AreOwned g ne
       by (Some j) e = elim (cases_eq j k) [
         | inl s ↦ inr (e ∙ ap (λ (n : ℕ). Some n) s)
         | inr ne ↦ absurd (elim (owned.owned j p f.within e) [
-            | inl i ↦ (
-                let out : In j earlier → ⊥ = λ m. f.apart j m (subst (λ t. In p (tree_nodes t)) (sym (same j m)) i) in
-                let none : In p (tree_nodes None) = subst (λ t. In p (tree_nodes t)) (bare j out) i in
-                elim none [ ])
-            | inr i ↦ f.kept j (reserved_below nets j p i) ne i
-          ])
+          | inl i ↦ (
+              let out : In j earlier → ⊥ = λ m. f.apart j m (subst (λ t. In p (tree_nodes t)) (sym (same j m)) i) in
+              let none : In p (tree_nodes None) = subst (λ t. In p (tree_nodes t)) (bare j out) i in
+              elim none [ ])
+          | inr i ↦ f.kept j (reserved_below nets j p i) ne i
+        ])
       ]
 
 -- ---- one net takes nodes that were free for it

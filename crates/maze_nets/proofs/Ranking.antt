@@ -1,7 +1,6 @@
 -- Nets by half perimeter, then by number.
-use Rattle.std.proofs.Common.{◌≡◌, ◌≢◌, ℕ, zero, suc, ◌+◌, ◌<◌, ◌≤◌, ◌⊎◌, inl, inr, ⊎_elim, Bool, true, false, List, [], ◌∷◌, ◌++◌, map, length, take, get_or, Some, refl, sym, ap, ◌∙◌, subst, arith, nat_eq}
-use Rattle.std.specs.Prelude.{◌↔◌, All, AllPairs, Contains, IsTrue, nat_lt, slice_get, slice_index_or}
-use Rattle.std.specs.Bool.{Decides}
+use Rattle.std.proofs.Common.{◌≡◌, ◌≢◌, ℕ, zero, suc, ◌+◌, ◌<◌, ◌⊎◌, inl, inr, ⊎_elim, Bool, true, false, List, [], ◌∷◌, ◌++◌, map, length, get_or, Some, refl, sym, ap, ◌∙◌, subst, arith, nat_eq}
+use Rattle.std.specs.Prelude.{All, Contains, IsTrue, slice_get, slice_index_or}
 use Rattle.std.specs.List.{IsDistinct}
 use Rattle.std.specs.List.Sorted.{IsPermutation, IsSorted}
 use Rattle.std.specs.Cmp.{IsTotalOrder}
@@ -11,17 +10,17 @@ use Rattle.std.specs.declared.cmp.Ordering.TheVariants.{Less, Equal, Greater}
 use Rattle.std.proofs.lemmas.Bool.{eqb-true, eq-eqb, ne_eqb}
 use Rattle.std.proofs.lemmas.Bool.Decides.{nat_tests}
 use Rattle.std.proofs.lemmas.Cmp.{ranked, then_total, on_total, nat_cmp_total}
-use Rattle.std.proofs.lemmas.List.{length-append, length-map, map-append, take_more, take-map, get_or_append_left, get_or_at}
+use Rattle.std.proofs.lemmas.List.{length-append, length-map, map-append, get_or_append_left, get_or_at}
 use Rattle.std.proofs.lemmas.List.Elements.{All-push, All-get_or}
-use Rattle.std.proofs.lemmas.List.Sorted.{All-permutation, Contains-permutation, IsPermutation-map, IsPermutation-sym, length_permutation, sorted_far, ranks_by}
+use Rattle.std.proofs.lemmas.List.Sorted.{All-permutation, Contains-permutation, IsPermutation-map, IsPermutation-sym, sorted_far, ranks_by}
 use Rattle.std.proofs.lemmas.Map.Keys.{IsDistinct-from_apart, apart_from_distinct, IsDistinct-IsPermutation}
-use Rattle.vlsi_base.specs.Member.{In, here, there}
+use Rattle.vlsi_base.specs.Member.{In}
 use Rattle.grid_core.specs.Trees.{IsNetOrder, net_precedes}
-use Rattle.grid_core.proofs.Lists.{In_either, In_first, In_last}
+use Rattle.grid_core.proofs.Lists.{In_either}
+use Rattle.grid_core.proofs.Owners.{first_or}
 use Rattle.maze_nets.specs.declared.points.NetPoints.{NetPoints}
 use Rattle.maze_nets.specs.Nets.{points_of, nodes_of, half_box, half_perimeter}
-use Rattle.maze_nets.proofs.Lists.{head_or}
-use Rattle.maze_nets.proofs.Taking.{In_place}
+use Rattle.maze_nets.proofs.Lists.{place_in}
 
 abbrev pub net_of : ℕ × ℕ → ℕ
 net_of r = r.1
@@ -65,13 +64,13 @@ get_counted (suc n) i d h = by (λ lt. get_counted n i d lt) (nat_eq i n) refl
         get_or_append_left (counted n) (n ∷ []) d i (omega arith) ∙ f lt
 
 in_counted : (n k : ℕ) → k < n → In k (counted n)
-in_counted n k h = let l = length_counted n in subst (λ (x : ℕ). In x (counted n)) (get_counted n k 0 h) (In_place (counted n) k 0 (omega arith))
+in_counted n k h = let l = length_counted n in subst (λ (x : ℕ). In x (counted n)) (get_counted n k 0 h) (place_in (counted n) k 0 (omega arith))
 
 below_counted : (n k : ℕ) → In k (counted n) → k < n
 below_counted zero k i = elim i [ ]
 below_counted (suc n) k i =
     ⊎_elim (λ j. let h = below_counted n k j in omega arith)
-    (λ j. ⊎_elim (λ e. let same : k ≡ n = e in omega arith) (λ x. elim x [ ]) (head_or k n [] j)) (In_either (counted n) (n ∷ []) k i)
+    (λ j. ⊎_elim (λ e. let same : k ≡ n = e in omega arith) (λ x. elim x [ ]) (first_or k n [] j)) (In_either (counted n) (n ∷ []) k i)
 
 flips : (x y : ℕ) → nat_eq x y ≡ nat_eq y x
 flips x y = by (nat_eq x y) (nat_eq y x) refl refl
@@ -91,12 +90,12 @@ distinct_counted n = IsDistinct-from_apart nat_eq (counted n) (λ i j d p q.
 
 -- ---- members
 contains_in : (xs : List ℕ) (x : ℕ) → Contains xs x → In x xs
-contains_in xs x c = subst (λ (y : ℕ). In y xs) c.2 (In_place xs c.0 x c.1)
+contains_in xs x c = subst (λ (y : ℕ). In y xs) c.2 (place_in xs c.0 x c.1)
 
 in_contains : (xs : List ℕ) (x : ℕ) → In x xs → Contains xs x
 in_contains [] x i = elim i [ ]
 in_contains (y ∷ xs) x i =
-    ⊎_elim (λ e. (0, omega arith, sym e)) (λ j. let r = in_contains xs x j in (suc r.0, (let h = r.1 in omega arith), r.2)) (head_or x y xs i)
+    ⊎_elim (λ e. (0, omega arith, sym e)) (λ j. let r = in_contains xs x j in (suc r.0, (let h = r.1 in omega arith), r.2)) (first_or x y xs i)
 
 -- ---- the order
 abbrev pub rank_cmp : ℕ × ℕ → ℕ × ℕ → Ordering

@@ -1,5 +1,5 @@
 -- Nodes become the nets' own for which they are reserved, net by net.
-use Rattle.std.proofs.Common.{◌≡◌, ◌≢◌, ℕ, zero, suc, ◌+◌, ◌<◌, ◌≤◌, ◌⊎◌, inl, inr, ⊎_elim, List, [], ◌∷◌, ◌++◌, length, take, get_or, Option, Some, None, refl, sym, ap, ◌∙◌, subst, arith}
+use Rattle.std.proofs.Common.{◌≡◌, ◌≢◌, ℕ, zero, suc, ◌+◌, ◌<◌, ◌≤◌, inl, inr, ⊎_elim, List, [], ◌∷◌, ◌++◌, length, take, get_or, Option, Some, None, refl, sym, ap, ◌∙◌, subst, arith}
 use Rattle.std.specs.Prelude.{flat_map, slice_get}
 use Rattle.std.proofs.lemmas.Bool.{cases_eq, cases_lt}
 use Rattle.std.proofs.lemmas.List.{take_all, take_more, flat_map_more}
@@ -7,12 +7,13 @@ use Rattle.vlsi_base.specs.Member.{In, here, there}
 use Rattle.grid_core.specs.declared.grid.Grid.{Grid}
 use Rattle.grid_core.specs.declared.grid.Node.{Node}
 use Rattle.grid_core.specs.Grid.{IsInGrid, above}
-use Rattle.grid_core.specs.Owners.{Owners, owner_of, IsBegun, IsTaken}
+use Rattle.grid_core.specs.Owners.{Owners, IsBegun, IsTaken}
 use Rattle.grid_core.proofs.Lists.{In_either, In_first, In_last}
+use Rattle.grid_core.proofs.Owners.{first_or}
 use Rattle.maze_nets.specs.declared.points.NetPoints.{NetPoints}
 use Rattle.maze_nets.specs.Nets.{port_node, reserved_of, nodes_of, net_reserved, AreRoutable}
 use Rattle.maze_nets.specs.Progress.{AreReserved}
-use Rattle.maze_nets.proofs.Lists.{head_or, cases_in, get_in, reserved_below}
+use Rattle.maze_nets.proofs.Lists.{some_same, cases_in, get_place, place_in}
 
 abbrev pub terminal_nodes : List Node → List Node
 terminal_nodes xs = flat_map (λ q. q ∷ above q ∷ []) xs
@@ -34,7 +35,7 @@ taken_then a b c net xs ys within s t =
     }
 
 pub one_in : (g : Grid) (q p : Node) → IsInGrid g q → In p (q ∷ []) → IsInGrid g p
-one_in g q p h i = ⊎_elim (λ e. subst (IsInGrid g) (sym e) h) (λ j. elim j [ ]) (head_or p q [] i)
+one_in g q p h i = ⊎_elim (λ e. subst (IsInGrid g) (sym e) h) (λ j. elim j [ ]) (first_or p q [] i)
 
 -- ---- the terminals of a net
 pub terminals_more : (nodes terminals : List Node) (i : ℕ) (d : Node) → i < length terminals
@@ -47,18 +48,13 @@ pub take_in : {A : Type 0} (xs : List A) (n : ℕ) (x : A) → In x (take n xs) 
 take_in [] zero x i = i
 take_in [] (suc n) x i = i
 take_in (y ∷ xs) zero x i = elim i [ ]
-take_in (y ∷ xs) (suc n) x i = ⊎_elim (λ e. subst (λ z. In x (z ∷ xs)) e here) (λ j. there (take_in xs n x j)) (head_or x y (take n xs) i)
-
-place_in : {A : Type 0} (xs : List A) (i : ℕ) (d : A) → i < length xs → In (get_or xs i d) xs
-place_in [] i d h = absurd (let no : ⊥ = omega arith in no)
-place_in (x ∷ xs) zero d h = here
-place_in (x ∷ xs) (suc i) d h = there (place_in xs i d (omega arith))
+take_in (y ∷ xs) (suc n) x i = ⊎_elim (λ e. subst (λ z. In x (z ∷ xs)) e here) (λ j. there (take_in xs n x j)) (first_or x y (take n xs) i)
 
 flat_in : (xs : List Node) (q p : Node) → In q xs → In p (q ∷ above q ∷ []) → In p (terminal_nodes xs)
 flat_in [] q p i j = elim i [ ]
 flat_in (x ∷ xs) q p i j =
     ⊎_elim (λ e. In_first (x ∷ above x ∷ []) (terminal_nodes xs) p (subst (λ (y : Node). In p (y ∷ above y ∷ [])) e j))
-    (λ k. In_last (x ∷ above x ∷ []) (terminal_nodes xs) p (flat_in xs q p k j)) (head_or q x xs i)
+    (λ k. In_last (x ∷ above x ∷ []) (terminal_nodes xs) p (flat_in xs q p k j)) (first_or q x xs i)
 
 flat_from : (xs : List Node) (p : Node) → In p (terminal_nodes xs) → (q : Node) × In q xs × In p (q ∷ above q ∷ [])
 flat_from [] p i = elim i [ ]
@@ -73,7 +69,7 @@ pub part_within : (g : Grid) (n : NetPoints) (i : ℕ) → ((p : Node) → In p 
 part_within g n i h p j =
     ⊎_elim (λ a. port_within g n h p a)
     (λ a. let r = flat_from (take i n.terminals.items) p a in
-        h p (In_last (port_node n.port) (terminal_nodes n.terminals.items) p (flat_in n.terminals.items r.0 p (take_in n.terminals.items i r.0 r.1) r.2)))
+    h p (In_last (port_node n.port) (terminal_nodes n.terminals.items) p (flat_in n.terminals.items r.0 p (take_in n.terminals.items i r.0 r.1) r.2)))
     (In_either (port_node n.port) (terminal_nodes (take i n.terminals.items)) p j)
 
 pub terminal_within : (g : Grid) (n : NetPoints) (i : ℕ) (d : Node) → i < length n.terminals.items → ((p : Node) → In p (reserved_of n) → IsInGrid g p)
@@ -116,16 +112,8 @@ get_high (x ∷ xs) zero j h = refl
 get_high (x ∷ xs) (suc i) zero h = absurd (let no : ⊥ = omega arith in no)
 get_high (x ∷ xs) (suc i) (suc j) h = get_high xs i j (omega arith)
 
-pub get_place : {A : Type 0} (xs : List A) (i : ℕ) (d : A) → i < length xs → slice_get xs i ≡ Some (get_or xs i d)
-get_place [] i d h = absurd (let no : ⊥ = omega arith in no)
-get_place (x ∷ xs) zero d h = refl
-get_place (x ∷ xs) (suc i) d h = get_place xs i d (omega arith)
-
 pub net_within : (g : Grid) (nets : List NetPoints) (i : ℕ) (d : NetPoints) → AreRoutable g nets → i < length nets → (p : Node) → In p (reserved_of (get_or nets i d)) → IsInGrid g p
 net_within g nets i d can lt p j = can.within i p (subst (λ n. In p (nodes_of reserved_of n)) (sym (get_place nets i d lt)) j)
-
-some_one : (j k : ℕ) → ◌≡◌ {A = Option ℕ} (Some j) (Some k) → j ≡ k
-some_one j k e = cc
 
 pub one_reserved : (g : Grid) (nets : List NetPoints) (i : ℕ) (d : NetPoints) (a b : Owners) → AreRoutable g nets → i < length nets
     → AreReserved g (net_reserved (take i nets)) a → IsTaken a i (reserved_of (get_or nets i d)) b → AreReserved g (net_reserved (take (i + 1) nets)) b
@@ -147,7 +135,7 @@ one_reserved g nets i d a b can lt s t =
             t.others p (grid_a p (can.within j p all)) (λ x. ne (can.alone j i p all (mine_given p x))) ∙ s.mine j p old)
       ];
       owned = λ j p h e. elim (cases_in p xs) [
-        | inl x ↦ subst (λ (n : ℕ). In p (net_reserved (take (i + 1) nets) n)) (some_one i j (sym (t.mine p x) ∙ e)) (subst (λ ys. In p ys) (sym fresh) x)
+        | inl x ↦ subst (λ (n : ℕ). In p (net_reserved (take (i + 1) nets) n)) (some_same i j (sym (t.mine p x) ∙ e)) (subst (λ ys. In p ys) (sym fresh) x)
         | inr out ↦ (
             let old = s.owned j p h (sym (t.others p (grid_a p h) out) ∙ e) in
             elim (cases_eq j i) [

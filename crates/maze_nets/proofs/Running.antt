@@ -1,23 +1,24 @@
 -- One net is routed: a tree begins at its first point, and grows path by path.
-use Rattle.std.proofs.Common.{◌≡◌, ◌≢◌, ℕ, zero, ◌<◌, ◌+◌, ◌⊎◌, inl, inr, ⊎_elim, Bool, true, false, List, [], ◌∷◌, ◌++◌, length, Option, Some, None, refl, sym, ap, ◌∙◌, subst, arith, if◌then◌else◌, nat_eq}
+use Rattle.std.proofs.Common.{◌≡◌, ◌≢◌, ℕ, ◌<◌, ◌+◌, inl, inr, ⊎_elim, Bool, true, false, List, [], ◌∷◌, ◌++◌, length, Option, Some, None, refl, sym, ap, ◌∙◌, subst, arith, if◌then◌else◌, nat_eq}
 use Rattle.std.specs.Prelude.{◌↔◌, Result, Ok, Err, IfOk, IfErr, is_err, slice_get, slice_index_or}
-use Rattle.std.proofs.lemmas.Bool.{eqb-true, eq-eqb, ne_eqb}
+use Rattle.std.proofs.lemmas.Bool.{eq-eqb, ne_eqb}
 use Rattle.std.proofs.lemmas.List.{length-append}
 use Prim.Native.Nat.{suc}
-use Rattle.vlsi_base.specs.Member.{In, here, there}
+use Rattle.vlsi_base.specs.Member.{In}
 use Rattle.grid_core.specs.declared.grid.Grid.{Grid}
 use Rattle.grid_core.specs.declared.grid.Node.{Node}
-use Rattle.grid_core.specs.Grid.{IsInGrid, IsPath, IsLeastPath}
-use Rattle.grid_core.specs.Owners.{Owners, owner_of, IsFree, IsTaken}
-use Rattle.grid_core.specs.Routes.{Tree, NetRoutes, tree_nodes, grown, with_start, with_path}
+use Rattle.grid_core.specs.Grid.{IsPath, IsLeastPath}
+use Rattle.grid_core.specs.Owners.{IsFree}
+use Rattle.grid_core.specs.Routes.{Tree, tree_nodes, grown}
 use Rattle.grid_core.specs.Trees.{IsFreeFor, AreRoutes, IsLeastTree, IsWhole, next_point}
-use Rattle.grid_core.proofs.Growing.{routes_begin, routes_grow}
-use Rattle.nero_maze.specs.Routing.{Routing, Move, Began, Joined, routes_of, tree_of, IsPoint, Begins, Connects}
+use Rattle.grid_core.proofs.Growing.{routes_begin, routes_grow, path_either, grown_nodes}
+use Rattle.grid_core.proofs.Owners.{first_or}
+use Rattle.nero_maze.specs.Routing.{Routing, Began, Joined, routes_of, tree_of, IsPoint, Begins, Connects}
 use Rattle.maze_nets.specs.declared.points.NetPoints.{NetPoints}
 use Rattle.maze_nets.specs.Nets.{points_of, nodes_of, net_points, net_reserved, AreRoutable}
 use Rattle.maze_nets.specs.Progress.{AreOwned, IsOrderly, Grows, Stops}
-use Rattle.maze_nets.proofs.Lists.{head_or, get_in, point_reserved}
-use Rattle.maze_nets.proofs.Growth.{path_moved, least_moved, tree_then, tree_begun, grown_either, grown_old, grown_new, path_either, new_point}
+use Rattle.maze_nets.proofs.Lists.{get_in, get_place, point_reserved}
+use Rattle.maze_nets.proofs.Growth.{path_moved, least_moved, tree_then, tree_begun, grown_old, grown_new, new_point}
 use Rattle.maze_nets.proofs.Owning.{Takes, tree_free, free_in_grid, free_for, owned_still, free_still}
 
 if_same : {A : Type 0} (k : ℕ) (a b : A) → (if nat_eq k k then a else b) ≡ a
@@ -60,7 +61,7 @@ pub seated : (g : Grid) (nets : List NetPoints) → AreRoutable g nets → (k : 
 seated g nets can k q old new o lt none first b =
     let here_is = began_here k q old new b.moves in
     let free = point_free g nets can old o.owners k 0 q first in
-    let one : (p : Node) → In p (q ∷ []) → p ≡ q = λ p i. ⊎_elim (λ e. e) (λ j. elim j [ ]) (head_or p q [] i) in
+    let one : (p : Node) → In p (q ∷ []) → p ≡ q = λ p i. ⊎_elim (λ e. e) (λ j. elim j [ ]) (first_or p q [] i) in
     let new_in : (p : Node) → In p (q ∷ []) → In p (tree_nodes (tree_of new k)) = λ p i. subst (λ t. In p (tree_nodes t)) (sym here_is) i in
     let t : Takes k (q ∷ []) old new = record {
       taken = b.taken;
@@ -92,12 +93,7 @@ seated g nets can k q old new o lt none first b =
 
 -- the points of a net, as a place of the list has them
 pub points_at : (nets : List NetPoints) (k : ℕ) (n d : NetPoints) → k < length nets → n ≡ slice_index_or nets k d → net_points nets k ≡ points_of n
-points_at nets k n d lt e = ap (nodes_of points_of) (place nets k lt ∙ ap (λ m. Some m) (sym e))
-  where
-    place : (xs : List NetPoints) (i : ℕ) → i < length xs → slice_get xs i ≡ Some (slice_index_or xs i d)
-    place [] i h = absurd (let no : ⊥ = omega arith in no)
-    place (x ∷ xs) zero h = refl
-    place (x ∷ xs) (suc i) h = place xs i (omega arith)
+points_at nets k n d lt e = ap (nodes_of points_of) (get_place nets k d lt ∙ ap (λ m. Some m) (sym e))
 
 -- what a call answers, where it is known how
 pub from_err : {A E : Type 0} {P : E → Type 0} (r : Result A E) (b : Bool) → b ≡ is_err r → b ≡ true → IfErr r P → (e : E) × P e
@@ -143,7 +139,7 @@ connected g nets can k at total q path old now new lt run e c =
       taken = c.taken;
       free = λ p i. ⊎_elim (λ f. f) (λ j. tree_free g nets now owners k p j) (path_either free_now (tree_nodes (tree_of now k)) q path leads p i);
       others = joined_other k path now new c.moves;
-      either = λ p i. ⊎_elim (λ a. inl (subst (λ t. In p (tree_nodes t)) (sym run.begun) a)) (λ a. inr a) (grown_either t0 path p (subst (λ t. In p (tree_nodes t)) here_is i));
+      either = λ p i. ⊎_elim (λ a. inl (subst (λ t. In p (tree_nodes t)) (sym run.begun) a)) (λ a. inr a) (grown_nodes t0 path p (subst (λ t. In p (tree_nodes t)) here_is i));
       before = λ p i. subst (λ t. In p (tree_nodes t)) (sym here_is) (grown_old t0 path p (subst (λ t. In p (tree_nodes t)) run.begun i));
       added = λ p i. subst (λ t. In p (tree_nodes t)) (sym here_is) (grown_new t0 path p i);
     } in

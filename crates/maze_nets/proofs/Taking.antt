@@ -1,23 +1,22 @@
 -- Nets one after another.
-use Rattle.std.proofs.Common.{◌≡◌, ◌≢◌, ℕ, zero, suc, ◌<◌, ◌≤◌, ◌+◌, ◌⊎◌, inl, inr, ⊎_elim, Bool, true, false, not, List, [], ◌∷◌, ◌++◌, length, get_or, take, drop, Option, Some, None, refl, sym, ap, ◌∙◌, subst, arith, nat_eq}
-use Rattle.std.specs.Prelude.{◌↔◌, reverse, slice_get, slice_index_or, AllPairs, IsTrue, nat_lt, ◌||◌, ◌&&◌}
-use Rattle.std.proofs.lemmas.Bool.{cases_lt, cases_eq}
+use Rattle.std.proofs.Common.{◌≡◌, ◌≢◌, ℕ, zero, suc, ◌<◌, ◌≤◌, ◌+◌, inr, ⊎_elim, List, [], ◌∷◌, ◌++◌, length, take, drop, Some, None, sym, ap, ◌∙◌, subst, arith}
+use Rattle.std.specs.Prelude.{◌↔◌, reverse, slice_get, slice_index_or, IsTrue}
 use Rattle.std.proofs.lemmas.Bool.Decides.{nat_tests}
-use Rattle.std.proofs.lemmas.List.{reverse-append, reverse-reverse, take_more, drop_more, take-append-drop, take_all}
+use Rattle.std.proofs.lemmas.List.{reverse-append, reverse-reverse, take_more, drop_more, take-append-drop}
 use Rattle.vlsi_base.specs.Member.{In, here, there}
 use Rattle.grid_core.specs.declared.grid.Grid.{Grid}
 use Rattle.grid_core.specs.declared.grid.Node.{Node}
-use Rattle.grid_core.specs.Grid.{IsInGrid, IsPath}
 use Rattle.grid_core.specs.Owners.{Owners, IsFree}
-use Rattle.grid_core.specs.Routes.{Tree, NetRoutes, tree_nodes}
-use Rattle.grid_core.specs.Trees.{IsFreeFor, IsFreeAfter, IsTreeOver, AreRoutes, AreWhole, IsLeastTree, IsWhole, AreDone, IsNetOrder, IsStuckAt, net_precedes}
-use Rattle.grid_core.proofs.Lists.{In_either, In_first, In_last}
+use Rattle.grid_core.specs.Routes.{NetRoutes, tree_nodes}
+use Rattle.grid_core.specs.Trees.{IsFreeFor, IsFreeAfter, IsTreeOver, AreWhole, IsLeastTree, IsWhole, AreDone, IsNetOrder, IsStuckAt, net_precedes}
+use Rattle.grid_core.proofs.Lists.{In_either}
+use Rattle.grid_core.proofs.Owners.{first_or}
 use Rattle.nero_maze.specs.Routing.{Routing, tree_of, routes_of, IsBare, NoneFrom}
 use Rattle.maze_nets.specs.declared.points.NetPoints.{NetPoints}
-use Rattle.maze_nets.specs.Nets.{net_points, net_reserved, half_perimeter, AreRoutable}
-use Rattle.maze_nets.specs.Progress.{AreReserved, AreOwned, IsOrderly, Grows, Stops, HasRouted}
-use Rattle.maze_nets.specs.Answers.{AreOrdered, AreStuck}
-use Rattle.maze_nets.proofs.Lists.{head_or}
+use Rattle.maze_nets.specs.Nets.{net_points, net_reserved, half_perimeter}
+use Rattle.maze_nets.specs.Progress.{AreReserved, IsOrderly, Grows, Stops, HasRouted}
+use Rattle.maze_nets.specs.Answers.{AreOrdered}
+use Rattle.maze_nets.proofs.Lists.{place_in}
 use Rattle.maze_nets.proofs.Growth.{path_moved, tree_moved}
 use Rattle.maze_nets.proofs.Owning.{free_after, after_free}
 
@@ -71,7 +70,7 @@ pub done_whole : (g : Grid) (reserved points : ℕ → List Node) (nets : ℕ) (
     → IsWhole (points k) (routes k)
 done_whole g reserved points nets routes [] k h i = elim i [ ]
 done_whole g reserved points nets routes (j ∷ earlier) k h i =
-    ⊎_elim (λ e. subst (λ (n : ℕ). IsWhole (points n) (routes n)) (sym e) h.1) (λ a. done_whole g reserved points nets routes earlier k h.2 a) (head_or k j earlier i)
+    ⊎_elim (λ e. subst (λ (n : ℕ). IsWhole (points n) (routes n)) (sym e) h.1) (λ a. done_whole g reserved points nets routes earlier k h.2 a) (first_or k j earlier i)
 
 -- ---- one net more
 module _ (g : Grid) (nets : List NetPoints) (earlier : List ℕ) (k : ℕ) (old new : Routing) (before : HasRouted g nets earlier old) (out : In k earlier → ⊥) (orderly : IsOrderly g nets new) (grows : Grows nets k old new) where
@@ -117,7 +116,7 @@ module _ (g : Grid) (nets : List NetPoints) (earlier : List ℕ) (k : ℕ) (old 
 pub In_reverse : {A : Type 0} (xs : List A) (x : A) → In x (reverse xs) → In x xs
 In_reverse [] x i = i
 In_reverse (y ∷ xs) x i =
-    ⊎_elim (λ a. there (In_reverse xs x a)) (λ a. ⊎_elim (λ e. subst (λ z. In x (z ∷ xs)) e here) (λ b. elim b [ ]) (head_or x y [] a))
+    ⊎_elim (λ a. there (In_reverse xs x a)) (λ a. ⊎_elim (λ e. subst (λ z. In x (z ∷ xs)) e here) (λ b. elim b [ ]) (first_or x y [] a))
     (In_either (reverse xs) (y ∷ []) x (subst (λ zs. In x zs) (reverse-append (y ∷ []) xs) i))
 
 pub In_take : {A : Type 0} (xs : List A) (n : ℕ) (x : A) → In x (take n xs) → (i : ℕ) × (i < n) × (i < length xs) × ((d : A) → slice_index_or xs i d ≡ x)
@@ -128,7 +127,7 @@ In_take (y ∷ xs) (suc n) x h =
     ⊎_elim
     (λ e. (0, omega arith, omega arith, λ d. sym e))
     (λ a. let r = In_take xs n x a in (suc r.0, (let h = r.1 in omega arith), (let h = r.2 in omega arith), r.3))
-    (head_or x y (take n xs) h)
+    (first_or x y (take n xs) h)
 
 pub In_drop : {A : Type 0} (xs : List A) (n : ℕ) (x : A) → In x (drop n xs) → (i : ℕ) × (n ≤ i) × (i < length xs) × ((d : A) → slice_index_or xs i d ≡ x)
 In_drop [] zero x h = elim h [ ]
@@ -137,13 +136,8 @@ In_drop (y ∷ xs) zero x h =
     ⊎_elim
     (λ e. (0, omega arith, omega arith, λ d. sym e))
     (λ a. let r = In_drop xs zero x a in (suc r.0, omega arith, (let h = r.2 in omega arith), r.3))
-    (head_or x y xs h)
+    (first_or x y xs h)
 In_drop (y ∷ xs) (suc n) x h = let r = In_drop xs n x h in (suc r.0, (let h = r.1 in omega arith), (let h = r.2 in omega arith), r.3)
-
-pub In_place : {A : Type 0} (xs : List A) (i : ℕ) (d : A) → i < length xs → In (slice_index_or xs i d) xs
-In_place [] i d h = absurd (omega arith)
-In_place (x ∷ xs) zero d h = here
-In_place (x ∷ xs) (suc i) d h = there (In_place xs i d (omega arith))
 
 -- no net precedes itself
 never_itself : (half : ℕ → ℕ) (k : ℕ) → IsTrue (net_precedes half k k) → ⊥
@@ -161,7 +155,7 @@ not_before half n order o i lt h =
 pub all_below : (half : ℕ → ℕ) (n : ℕ) (order : List ℕ) → IsNetOrder half n order → (i j : ℕ) → In j (reverse (take i order)) → j < n
 all_below half n order o i j h =
     let r = In_take order i j (In_reverse (take i order) j h) in
-    (o.each j).0 (subst (λ (k : ℕ). In k order) (r.3 0) (In_place order r.0 0 r.2))
+    (o.each j).0 (subst (λ (k : ℕ). In k order) (r.3 0) (place_in order r.0 0 r.2))
 
 pub not_after : (half : ℕ → ℕ) (n : ℕ) (order : List ℕ) → IsNetOrder half n order → (i : ℕ) → i < length order → (j : ℕ) → In j (drop (i + 1) order)
     → (j ≢ slice_index_or order i 0) × (In j (reverse (take i order)) → ⊥)

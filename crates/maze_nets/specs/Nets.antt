@@ -1,5 +1,5 @@
 -- The points of nets, what is reserved for them, and how far they lie apart.
-use Rattle.std.specs.Prelude.{◌≡◌, ◌≢◌, ℕ, ◌+◌, ◌-◌, ◌<◌, min, max, Bool, true, false, List, [], ◌∷◌, ◌++◌, map, length, Option, None, Some, slice_get}
+use Rattle.std.specs.Prelude.{◌≡◌, ℕ, ◌+◌, ◌-◌, min, max, Bool, true, false, List, [], ◌∷◌, ◌++◌, map, Option, None, Some, slice_get}
 use Rattle.std.specs.List.{flat_map}
 use Rattle.vlsi_base.specs.Member.{In, AllDifferent}
 use Rattle.grid_core.specs.declared.grid.Grid.{Grid}

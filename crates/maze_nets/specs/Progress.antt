@@ -1,18 +1,18 @@
 -- What is true of a router between two nets, and what the routing of one net adds.
-use Rattle.std.specs.Prelude.{◌≡◌, ◌≢◌, ℕ, ◌⊎◌, List, [], ◌∷◌, Option, None, Some, length, slice_get}
+use Rattle.std.specs.Prelude.{◌≡◌, ◌≢◌, ℕ, ◌⊎◌, List, None, Some, length, slice_get}
 use Prim.Native.Nat.{suc}
 use Rattle.vlsi_base.specs.Member.{In}
 use Rattle.grid_core.specs.declared.grid.Grid.{Grid}
 use Rattle.grid_core.specs.declared.grid.Node.{Node}
 use Rattle.grid_core.specs.Grid.{IsInGrid, IsPath}
 use Rattle.grid_core.specs.Owners.{Owners, owner_of, IsFree}
-use Rattle.grid_core.specs.Routes.{Tree, NetRoutes, tree_nodes}
+use Rattle.grid_core.specs.Routes.{Tree, tree_nodes}
 use Rattle.grid_core.specs.Trees.{AreRoutes, IsLeastTree, AreDone}
 use Rattle.nero_maze.specs.Routing.{Routing, tree_of}
 use Rattle.maze_nets.specs.declared.points.NetPoints.{NetPoints}
 use Rattle.maze_nets.specs.Nets.{net_points, net_reserved}
 
--- a node is owned by the net for which it is reserved, among the first so many nets, and else by none
+-- a node is owned by the net for which it is reserved, and else by none
 pub record AreReserved (g : Grid) (reserved : ℕ → List Node) (o : Owners) : Type 0 where
   pub grid : o.grid ≡ g
   pub mine : (k : ℕ) (p : Node) → In p (reserved k) → owner_of o p ≡ Some k

@@ -56,7 +56,8 @@ fn route_in_order(router: &mut Router, nets: &[NetPoints], order: &[u32]) -> Opt
     requires order { IsNetOrder (half_perimeter nets.now) (length nets.now) order.now }
     requires bare { HasRouted router.old.occupied.grid nets.now [] router.old }
     ensures only { NoneFrom (length nets.now) router.new }
-    ensures routes { AreRoutes router.old.occupied.grid (net_reserved nets.now) (net_points nets.now) (length nets.now) (tree_of router.new) }
+    ensures routes { AreRoutes router.old.occupied.grid (net_reserved nets.now) (net_points nets.now) (length nets.now)
+        (tree_of router.new) }
     ensures all { IfNone result (AreOrdered router.old.occupied.grid nets.now (tree_of router.new)) }
     ensures stuck { IfSome result (λ s. AreStuck router.old.occupied.grid nets.now (tree_of router.new) s.net s.point) }
 {

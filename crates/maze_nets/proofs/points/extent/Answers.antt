@@ -1,4 +1,4 @@
-use Rattle.std.proofs.Common.{ℕ, ◌≡◌, ◌≤◌, ◌+◌, min, max, map, drop, length, arith, sym, subst}
+use Rattle.std.proofs.Common.{ℕ, ◌≡◌, ◌≤◌, ◌+◌, min, max, map, drop, length, arith, subst}
 use Rattle.maze_nets.specs.Nets.{points_of, least, greatest, along_axis}
 use Rattle.maze_nets.proofs.Reach.{least_next, greatest_next, extent_of}
 use Rattle.maze_nets.proofs.points.extent.Goals as goal

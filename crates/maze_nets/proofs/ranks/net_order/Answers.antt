@@ -3,8 +3,8 @@ use Rattle.std.proofs.lemmas.List.{take_all}
 use Rattle.grid_core.specs.Trees.{IsNetOrder}
 use Rattle.maze_nets.specs.declared.points.NetPoints.{NetPoints}
 use Rattle.maze_nets.specs.Nets.{half_perimeter}
+use Rattle.maze_nets.proofs.Lists.{get_place}
 use Rattle.maze_nets.proofs.Ranking.{net_of, Ranked, ranked_more, order_is}
-use Rattle.maze_nets.proofs.Reserving.{get_place}
 use Rattle.maze_nets.proofs.ranks.net_order.Goals as goal
 
 pub loop-net-preserved : goal.loop-net-preserved

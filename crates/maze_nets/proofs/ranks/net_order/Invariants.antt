@@ -1,4 +1,4 @@
-use Rattle.std.proofs.Common.{◌≡◌, ℕ, map, take}
+use Rattle.std.proofs.Common.{◌≡◌, map, take}
 use Rattle.maze_nets.proofs.Ranking.{Ranked, net_of}
 use Rattle.maze_nets.proofs.ranks.net_order.Given as goal
 

@@ -1,16 +1,16 @@
-use Rattle.std.proofs.Common.{ℕ, ◌≡◌, ◌<◌, ◌+◌, List, ◌∷◌, length, take, drop, Some, arith, sym, ap, ◌∙◌, subst}
-use Rattle.std.specs.Prelude.{reverse, slice_index_or, IfSome}
+use Rattle.std.proofs.Common.{ℕ, ◌≡◌, ◌+◌, List, length, take, drop, arith, sym, subst}
+use Rattle.std.specs.Prelude.{reverse, slice_index_or}
 use Rattle.std.proofs.lemmas.List.{take_all}
 use Rattle.grid_core.specs.declared.grid.Grid.{Grid}
 use Rattle.grid_core.specs.Trees.{IsNetOrder}
-use Rattle.nero_maze.specs.Routing.{tree_of, NoneFrom}
 use Rattle.maze_nets.specs.Nets.{half_perimeter}
 use Rattle.maze_nets.specs.Progress.{IsOrderly, HasRouted}
-use Rattle.maze_nets.proofs.Taking.{In_place, not_before, not_after, all_below, order_split, reverse_more, one_more, stuck_at, none_from, no_tree_from}
+use Rattle.maze_nets.proofs.Lists.{place_in}
+use Rattle.maze_nets.proofs.Taking.{not_before, not_after, all_below, order_split, reverse_more, one_more, stuck_at, none_from, no_tree_from}
 use Rattle.maze_nets.proofs.routing.route_in_order.Goals as goal
 
 pub route_net-requires-clause-net : goal.route_net-requires-clause-net
-route_net-requires-clause-net c = (c.requires.order.each (slice_index_or c.args.order.now c.loop-net.net-index 0)).0 (In_place c.args.order.now c.loop-net.net-index 0 c.loop-net-test.true)
+route_net-requires-clause-net c = (c.requires.order.each (slice_index_or c.args.order.now c.loop-net.net-index 0)).0 (place_in c.args.order.now c.loop-net.net-index 0 c.loop-net-test.true)
 
 pub route_net-requires-clause-bare : goal.route_net-requires-clause-bare
 route_net-requires-clause-bare c =
@@ -29,7 +29,7 @@ returns-in-Some-clause-only c =
     let orderly = subst (λ (h : Grid). IsOrderly h nets c.route_net.new.router) inv.orderly.owners.grid c.route_net.ensures.orderly in
     none_from c.args.router.now.occupied.grid nets (reverse (take i order)) k c.loop-net.router c.route_net.new.router inv
     (not_before half (length nets) order c.requires.order i c.loop-net-test.true) orderly c.route_net.ensures.grows
-    (length nets) ((c.requires.order.each k).0 (In_place order i 0 c.loop-net-test.true)) (λ j h. all_below half (length nets) order c.requires.order i j h)
+    (length nets) ((c.requires.order.each k).0 (place_in order i 0 c.loop-net-test.true)) (λ j h. all_below half (length nets) order c.requires.order i j h)
 
 pub returns-in-Some-clause-stuck : goal.returns-in-Some-clause-stuck
 returns-in-Some-clause-stuck c =
