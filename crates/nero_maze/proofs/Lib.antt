@@ -5,4 +5,5 @@ mod Claiming
 mod Neighbours
 mod Ties
 mod Growth
+mod Telling
 mod Sounds

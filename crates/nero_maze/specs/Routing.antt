@@ -1,10 +1,11 @@
 -- What a router is seen as: who owns each node, and what it did.
-use Rattle.std.specs.Prelude.{ℕ, ◌≡◌, ◌⊎◌, List, [], ◌∷◌, Option, None, Some}
+use Rattle.std.specs.Prelude.{ℕ, ◌≡◌, ◌≤◌, ◌⊎◌, List, [], ◌∷◌, Option, None, Some, length}
 use Rattle.vlsi_base.specs.Member.{In}
 use Rattle.grid_core.specs.declared.grid.Node.{Node}
 use Rattle.grid_core.specs.Grid.{cost, IsLeastPath}
 use Rattle.grid_core.specs.Owners.{Owners, IsFree, IsTaken}
 use Rattle.grid_core.specs.Routes.{Tree, tree_nodes, with_start, with_path}
+use Rattle.grid_core.specs.Shown.{tree_in}
 
 -- a net's tree began at a node, or it got a path
 pub data Move : Type 0 where
@@ -45,3 +46,12 @@ pub record Connects (net : ℕ) (target : Node) (total : ℕ) (old new : Routing
   pub costs : cost path ≡ total
   pub moves : new.moves ≡ Joined net path ∷ old.moves
   pub taken : IsTaken old.occupied net path new.occupied
+
+-- the nets from this number on have no tree
+abbrev pub NoneFrom : ℕ → Routing → Type 0
+NoneFrom nets r = (k : ℕ) → nets ≤ k → tree_of r k ≡ None
+
+-- these are the trees of all nets, of which there are so many
+pub record AreTrees (nets : ℕ) (r : Routing) (trees : List (Option Tree)) : Type 0 where
+  pub size : length trees ≡ nets
+  pub same : (k : ℕ) → tree_in trees k ≡ tree_of r k

@@ -10,11 +10,11 @@ use crate::search::search;
 use grid_core::NOBODY;
 
 /// The link of a node at which a tree began.
-const ROOT: u8 = 9;
+pub(crate) const ROOT: u8 = 9;
 /// The mark in the log of a node to which a path was claimed, or at which a tree began.
 const REACHED: u8 = 1;
 /// The mark of one that was in the net's tree already.
-const TOUCHED: u8 = 2;
+pub(crate) const TOUCHED: u8 = 2;
 
 /// All arrays: 15 bytes a node.
 #[derive(Drop)]

@@ -4,6 +4,7 @@
 mod board;
 mod claim;
 mod frontier;
+mod history;
 mod router;
 mod search;
 mod way;

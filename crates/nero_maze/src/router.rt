@@ -4,11 +4,12 @@ ghost use Rattle.grid_core.specs.declared.grid.Node.{Node as AnyNode};
 ghost use Rattle.grid_core.specs.Grid.{IsInGrid, IsPath};
 ghost use Rattle.grid_core.specs.Owners.{IsFree};
 ghost use Rattle.grid_core.specs.Routes.{tree_nodes};
-ghost use Rattle.nero_maze.specs.Routing.{tree_of, IsPoint, IsBare, Begins, Connects};
+ghost use Rattle.nero_maze.specs.Routing.{tree_of, IsPoint, IsBare, Begins, Connects, NoneFrom, AreTrees};
 
 use crate::board::{Board, join, root};
 use crate::frontier::{Room, unmarked, zeros};
-use grid_core::{Node, Occupied, number_of};
+use crate::history::trees_of;
+use grid_core::{Node, Occupied, Routes, number_of};
 use std::alloc::{AllocError, Global};
 use std::marker::Model;
 
@@ -86,5 +87,13 @@ impl Router {
             Some(cost) => Ok(cost),
             None => Err(NoPath),
         }
+    }
+
+    /// The trees of all nets, of which there are so many, by their numbers. Takes memory for the trees, and goes over their nodes alone.
+    pub fn routes(&self, alloc: Global, nets: usize) -> Result<Routes, AllocError>
+        requires nets { NoneFrom nets self.now }
+        ensures { IfOk result (λ r. AreTrees nets self.now r) }
+    {
+        Ok(Routes::new(trees_of(&self.board, alloc, nets)?))
     }
 }
