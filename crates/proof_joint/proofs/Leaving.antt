@@ -75,7 +75,7 @@ none_out c (x ∷ names) apart =
 pub left_out : (c : Name) (xs ys : List Name) (k : ℕ) (d : Name) → AllDifferent xs → In c xs
     → slice_index_or (xs ++ ys) (number (name_place c xs) k) d ≡ slice_index_or (without c xs ++ ys) k d
 left_out c [] ys k d different h = elim h [ ]
-left_out c (x ∷ xs) ys k d different h = by (is_same_name x c) refl where
+left_out c (x ∷ xs) ys k d different h = by (is_same_name x c) refl (λ e i. left_out c xs ys i d different.1 (later x c xs e h)) where
   first : is_same_name x c ≡ true → slice_index_or ((x ∷ xs) ++ ys) (number 0 k) d ≡ slice_index_or (without c (x ∷ xs) ++ ys) k d
   first e =
       let same : x ≡ c = same_name-true x c e in
@@ -100,11 +100,11 @@ left_out c (x ∷ xs) ys k d different h = by (is_same_name x c) refl where
   second zero rest = ap (λ (i : ℕ). slice_index_or ((x ∷ xs) ++ ys) i d) (number_below (suc (name_place c xs)) zero (omega arith))
   second (suc j) rest = next j (rest j)
 
-  by : (b : Bool) → is_same_name x c ≡ b → slice_index_or ((x ∷ xs) ++ ys) (number (if b then 0 else suc (name_place c xs)) k) d
-      ≡ slice_index_or (without c (x ∷ xs) ++ ys) k d
-  by true e = first e
-  by false e =
-      second k (λ i. left_out c xs ys i d different.1 (later x c xs e h)) ∙ ap (λ (l : List Name). slice_index_or (l ++ ys) k d) (sym (kept e))
+  by : (b : Bool) → is_same_name x c ≡ b
+      → (is_same_name x c ≡ false → (i : ℕ) → slice_index_or (xs ++ ys) (number (name_place c xs) i) d ≡ slice_index_or (without c xs ++ ys) i d)
+      → slice_index_or ((x ∷ xs) ++ ys) (number (if b then 0 else suc (name_place c xs)) k) d ≡ slice_index_or (without c (x ∷ xs) ++ ys) k d
+  by true e rest = first e
+  by false e rest = second k (rest e) ∙ ap (λ (l : List Name). slice_index_or (l ++ ys) k d) (sym (kept e))
 
 -- ---- expressions
 
