@@ -6,7 +6,7 @@ ghost use Rattle.tool_words.specs.declared.words.WordsError.TheVariants.{Memory,
 ghost use Rattle.tool_words.specs.Words.{is_word};
 
 use clap::error::ErrorKind;
-use std::alloc::{AllocError, AllocFailed, Global};
+use std::alloc::{AllocError, AllocFailed};
 use std::marker::Model;
 use thiserror::Error;
 use vlsi_base::Text;
