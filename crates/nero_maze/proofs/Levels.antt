@@ -1,10 +1,10 @@
 -- One level of the search.
-use Rattle.std.proofs.Common.{ℕ, ◌≡◌, ◌≢◌, ◌+◌, ◌<◌, ◌≤◌, inl, inr, List, [], ◌∷◌, length, Some, slice_index, arith, sym, ◌∙◌, subst, refl}
+use Rattle.std.proofs.Common.{ℕ, ◌≡◌, ◌≢◌, ◌+◌, ◌%◌, ◌<◌, ◌≤◌, inl, inr, List, [], ◌∷◌, length, Some, slice_index, arith, sym, ◌∙◌, subst, refl}
 use Rattle.std.proofs.lemmas.Bool.{cases_lt}
 use Rattle.grid_core.specs.declared.grid.Grid.{Grid}
 use Rattle.nero_maze.specs.Ways.{next, weight, opposite}
-use Rattle.nero_maze.specs.Search.{IsFree, LeadsTo, NoneBelow, Trace, Kept, Grown, Reached, IsSpread}
-use Rattle.nero_maze.proofs.Theory.{IsAtLevel, Settled, AllMarked, weight_step, weight_via, leads-trace, Trace-more, mark_stays, unmarked_before, Reached-more}
+use Rattle.nero_maze.specs.Search.{IsFree, LeadsTo, NoneBelow, Trace, Kept, Grown, IsSpread}
+use Rattle.nero_maze.proofs.Theory.{IsAtLevel, Settled, AllMarked, weight_step, weight_via, leads-trace, Trace-more, mark_stays, unmarked_before, still_fresh, Reached-more}
 
 pub record Searched (g : Grid) (owners : List ℕ) (net target : ℕ) (order marks : List ℕ) (a b c d n : ℕ) : Type 0 where
   pub kept : Kept order marks n
@@ -97,68 +97,181 @@ all_later g o t s ord m ord1 m1 m2 a b c d n d1 ab bc found settled all stay sta
           ])
     ]
 
-pub next_level : (g : Grid) (o : List ℕ) (t s : ℕ) (ord m ord1 m1 ord2 m2 : List ℕ) (a b c d n n1 n2 : ℕ)
-    → a < n
-    → Searched g o t s ord m a b c d n
-    → Grown g o t c n 0 2 ord m n ord1 m1 n1 → Grown g o t a b 2 4 ord1 m1 n1 ord2 m2 n2
-    → ((j k : ℕ) → c ≤ j → j < n → 0 ≤ k → k < 2 → IsSpread g o t ord m1 j k)
-    → ((j k : ℕ) → a ≤ j → j < b → 2 ≤ k → k < 4 → IsSpread g o t ord1 m2 j k)
-    → Kept ord2 m2 n2
-    → Searched g o t s ord2 m2 b c n (d + 1) n2
-next_level g o t s ord m ord1 m1 ord2 m2 a b c d n n1 n2 an h gr1 gr2 steps vias kept =
-    let more1 = gr1.more in
-    let more2 = gr2.more in
-    let b0 = h.bound in
-    let b1 = h.in_b in
-    let b2 = h.in_c in
-    let b3 = h.in_n in
-    let d1 = h.first in
-    let stay1 = mark_stays g o t c n 0 2 ord m n ord1 m1 n1 gr1 in
-    let stay2 = mark_stays g o t a b 2 4 ord1 m1 n1 ord2 m2 n2 gr2 in
-    let stays : (v : ℕ) → slice_index m v ≢ 0 → slice_index m2 v ≡ slice_index m v = λ v ne. gr2.stays v (stay1 v ne) ∙ gr1.stays v ne in
-    let same : (i : ℕ) → i < n → slice_index ord2 i ≡ slice_index ord i = λ i lt. let lt1 : i < n1 = omega arith in gr2.prefix i lt1 ∙ gr1.prefix i lt in
-    let old : (i : ℕ) → i < n → Settled g o t s m2 b c n (d + 1) i (slice_index ord2 i) =
-    λ i lt. rw (same i lt) (settled_later g o t s m m2 a b c d n i (slice_index ord i) stays lt b1 b2 (h.settled i lt)) in
-    let before1 = unmarked_before g o t c n 0 2 ord m n ord1 m1 n1 gr1 in
-    -- an entry reached from an older one
-    let new : (i from to low high : ℕ) → n ≤ i → to ≤ n → high ≤ 4
-    → ((j : ℕ) → from ≤ j → j < to → (k : ℕ) → low ≤ k → k < high → (x : ℕ) → IsAtLevel a b c d j x → x + weight k ≡ d)
-    → slice_index m (slice_index ord2 i) ≡ 0
-    → Reached g o t ord2 m2 from to low high i → Settled g o t s m2 b c n (d + 1) i (slice_index ord2 i) =
-    λ i from to low high ni tn h4 costs z r.
-    let (j, fj, jt, ji, (k, lk, kh, mark, is, from_is, free)) = r in
-    let jn : j < n = omega arith in
-    let k4 : k < 4 = omega arith in
-    let hj = h.settled j jn in
-    let tr : Trace g o t m2 s (slice_index ord2 j) hj.back hj.cost = rw (same j jn) (Trace-more g o t s m m2 stays (slice_index ord j) hj.back hj.cost hj.trace) in
-    settled_new g o t s m m2 b c d n i (slice_index ord2 i) (slice_index ord2 j) hj.back hj.cost j k tr hj.size ji k4
-    (costs j fj jt k lk kh hj.cost hj.level) ni mark is from_is free z h.all in
-    let step_costs : (j : ℕ) → c ≤ j → j < n → (k : ℕ) → 0 ≤ k → k < 2 → (x : ℕ) → IsAtLevel a b c d j x → x + weight k ≡ d =
-    λ j fj jt k lk kh x level. let w = weight_step k kh in
-    elim level [ inl l ↦ (let l1 = l.0 in omega arith) | inr (inl l) ↦ (let l1 = l.1 in omega arith) | inr (inr (inl l)) ↦ (let l1 = l.1 in omega arith) | inr (inr (inr l)) ↦ (let l1 = l.1 in omega arith) ] in
-    let via_costs : (j : ℕ) → a ≤ j → j < b → (k : ℕ) → 2 ≤ k → k < 4 → (x : ℕ) → IsAtLevel a b c d j x → x + weight k ≡ d =
-    λ j fj jt k lk kh x level. let w = weight_via k lk in
-    elim level [ inl l ↦ (let l1 = l.0 in omega arith) | inr (inl l) ↦ (let l1 = l.2 in omega arith) | inr (inr (inl l)) ↦ (let l1 = l.0 in omega arith) | inr (inr (inr l)) ↦ (let l1 = l.0 in omega arith) ] in
-    record {
-      kept = kept;
-      first = omega arith;
-      in_b = b2;
-      in_c = b3;
-      in_n = omega arith;
-      bound = omega arith;
-      settled = λ i lt. elim (cases_lt i n) [
-        | inl l ↦ old i l
-        | inr ge ↦ elim (cases_lt i n1) [
-          | inl l1 ↦ new i c n 0 2 ge (omega arith) (omega arith) step_costs
-              (rw (gr2.prefix i l1) (gr1.fresh i ge l1))
-              (Reached-more g o t c n 0 2 a b 2 4 ord1 m1 n1 ord2 m2 n2 gr2 i l1 (gr1.reached i ge l1))
-          | inr ge1 ↦ new i a b 2 4 ge (omega arith) (omega arith) via_costs
-              (before1 (slice_index ord2 i) (gr2.fresh i ge1 lt)) (gr2.reached i ge1 lt)
-        ]
-      ];
-      all = all_later g o t s ord m ord1 m1 m2 a b c d n d1 b1 b2 h.kept.found h.settled h.all
-          (λ v ne. stay2 v (stay1 v ne)) stay2 gr1.prefix steps vias;
-    }
+-- an entry of this level, and an older one from which it was reached
+pub record Entry (g : Grid) (owners : List ℕ) (net : ℕ) (order marks before : List ℕ) (a b c d n i : ℕ) : Type 0 where
+  pub from : ℕ
+  pub way : ℕ
+  pub older : from < n
+  pub few : way < 4
+  pub costs : (x : ℕ) → IsAtLevel a b c d from x → x + weight way ≡ d
+  pub mark : slice_index marks (slice_index order i) ≡ way + 9
+  pub is : next g (slice_index order from) way ≡ Some (slice_index order i)
+  pub back : next g (slice_index order i) (opposite way) ≡ Some (slice_index order from)
+  pub free : IsFree owners net (slice_index order i)
+  pub unmarked : slice_index before (slice_index order i) ≡ 0
+
+module _ (g : Grid) (o : List ℕ) (t s : ℕ) (ord m ord1 m1 ord2 m2 : List ℕ) (a b c d n n1 n2 : ℕ)
+    (h : Searched g o t s ord m a b c d n) (flat : (v : ℕ) → slice_index m v < 8)
+    (gr1 : Grown g o t c n 0 2 ord m n ord1 m1 n1) (gr2 : Grown g o t a b 2 4 ord1 m1 n1 ord2 m2 n2) (kept : Kept ord2 m2 n2) where
+  step_costs : (j : ℕ) → c ≤ j → j < n → (k : ℕ) → 0 ≤ k → k < 2 → (x : ℕ) → IsAtLevel a b c d j x → x + weight k ≡ d
+  step_costs j fj jt k lk kh x level =
+      let b1 = h.in_b in
+      let b2 = h.in_c in
+      let w = weight_step k kh in
+      elim level [ inl l ↦ (let l1 = l.0 in omega arith) | inr (inl l) ↦ (let l1 = l.1 in omega arith) | inr (inr (inl l)) ↦ (let l1 = l.1 in omega arith) | inr (inr (inr l)) ↦ (let l1 = l.1 in omega arith) ]
+
+  via_costs : (j : ℕ) → a ≤ j → j < b → (k : ℕ) → 2 ≤ k → k < 4 → (x : ℕ) → IsAtLevel a b c d j x → x + weight k ≡ d
+  via_costs j fj jt k lk kh x level =
+      let b1 = h.in_b in
+      let b2 = h.in_c in
+      let w = weight_via k lk in
+      elim level [ inl l ↦ (let l1 = l.0 in omega arith) | inr (inl l) ↦ (let l1 = l.2 in omega arith) | inr (inr (inl l)) ↦ (let l1 = l.0 in omega arith) | inr (inr (inr l)) ↦ (let l1 = l.0 in omega arith) ]
+
+  -- the mark of an older entry stays
+  old_mark : (v : ℕ) → slice_index m v ≢ 0 → slice_index m2 v ≡ slice_index m v
+  old_mark v ne =
+      let low = flat v in
+      let e1 : slice_index m1 v ≡ slice_index m v = elim (gr1.stays v ne) [ inl e ↦ e | inr x ↦ (let x0 = x.0 in let no : ⊥ = omega arith in absurd no) ] in
+      let ne1 : slice_index m1 v ≢ 0 = mark_stays g o t c n 0 2 ord m n ord1 m1 n1 gr1 v ne in
+      elim (gr2.stays v ne1) [ inl e ↦ e ∙ e1 | inr x ↦ (let x0 = x.0 in let no : ⊥ = omega arith in absurd no) ]
+
+  same_entry : (i : ℕ) → i < n → slice_index ord2 i ≡ slice_index ord i
+  same_entry i lt = let more1 = gr1.more in let lt1 : i < n1 = omega arith in gr2.prefix i lt1 ∙ gr1.prefix i lt
+
+  entry : (i : ℕ) → n ≤ i → i < n2 → Entry g o t ord2 m2 m a b c d n i
+  entry i ni lt =
+      let more1 = gr1.more in
+      let b2 = h.in_c in
+      let b3 = h.in_n in
+      let found : (slice_index m (slice_index ord2 i) ≡ 0) × (8 < slice_index m2 (slice_index ord2 i)) = elim (cases_lt i n1) [
+        | inl l1 ↦ (
+            let f = gr1.fresh i ni l1 in
+            let f1 = f.1 in
+            let ne : slice_index m1 (slice_index ord1 i) ≢ 0 = omega arith in
+            let p = gr2.prefix i l1 in
+            (rw p f.0, rw p (still_fresh (slice_index m1 (slice_index ord1 i)) (slice_index m2 (slice_index ord1 i)) f1 (gr2.stays (slice_index ord1 i) ne))))
+        | inr g1 ↦ (let f = gr2.fresh i g1 lt in (unmarked_before g o t c n 0 2 ord m n ord1 m1 n1 gr1 (slice_index ord2 i) f.0, f.1))
+      ] in
+      elim (gr2.reached i lt found.1) [
+        | inl r ↦ (
+            let (j, fj, jt, (k, lk, kh, mark, is, from_is, free)) = r in
+            record {
+              from = j;
+              way = k;
+              older = omega arith;
+              few = kh;
+              costs = via_costs j fj jt k lk kh;
+              mark = mark;
+              is = is;
+              back = from_is;
+              free = free;
+              unmarked = found.0;
+            })
+        | inr r ↦ (
+            let l1 = r.0 in
+            let same = r.1 in
+            let high = found.1 in
+            let here : 8 < slice_index m1 (slice_index ord2 i) = omega arith in
+            let high1 : 8 < slice_index m1 (slice_index ord1 i) = subst (λ (x : ℕ). 8 < slice_index m1 x) (gr2.prefix i l1) here in
+            elim (gr1.reached i l1 high1) [
+              | inl r1 ↦ (
+                  let (j, fj, jt, (k, lk, kh, mark, is, from_is, free)) = Reached-more g o t c n 0 2 ord1 m1 n1 ord2 m2 more1 gr2.prefix i l1 same r1 in
+                  record {
+                    from = j;
+                    way = k;
+                    older = jt;
+                    few = omega arith;
+                    costs = step_costs j fj jt k lk kh;
+                    mark = mark;
+                    is = is;
+                    back = from_is;
+                    free = free;
+                    unmarked = found.0;
+                  })
+              | inr r0 ↦ (let l0 = r0.0 in let no : ⊥ = omega arith in absurd no)
+            ])
+      ]
+
+  -- what settling the marks of this level asks
+  pub older_low : (i : ℕ) → i < n → i < n2 → slice_index m2 (slice_index ord2 i) < 8
+  older_low i lt lt2 =
+      let v = slice_index ord i in
+      let ne = h.kept.marked i lt in
+      let e = old_mark v ne in
+      let low = flat v in
+      let small : slice_index m2 v < 8 = omega arith in
+      rw (same_entry i lt) small
+
+  pub live : (v : ℕ) → slice_index m2 v ≢ 0 → slice_index m2 v % 8 ≢ 0
+  live v ne =
+      let (i, lt, at) = kept.found v ne in
+      elim (cases_lt i n) [
+        | inl old ↦ (
+            let low = older_low i old lt in
+            let small : slice_index m2 v < 8 = subst (λ (x : ℕ). slice_index m2 x < 8) at low in
+            omega arith)
+        | inr new ↦ (
+            let e = entry i new lt in
+            let few = e.few in
+            let mark = e.mark in
+            let is : slice_index m2 v ≡ e.way + 9 = subst (λ (x : ℕ). slice_index m2 x ≡ e.way + 9) at mark in
+            omega arith)
+      ]
+
+  level_on : (m3 : List ℕ) → a < n
+      → ((j k : ℕ) → c ≤ j → j < n → 0 ≤ k → k < 2 → IsSpread g o t ord m1 j k)
+      → ((j k : ℕ) → a ≤ j → j < b → 2 ≤ k → k < 4 → IsSpread g o t ord1 m2 j k)
+      → Kept ord2 m3 n2 → ((v : ℕ) → slice_index m3 v ≡ slice_index m2 v % 8)
+      → Searched g o t s ord2 m3 b c n (d + 1) n2
+  level_on m3 an steps vias kept3 settled =
+      let more1 = gr1.more in
+      let more2 = gr2.more in
+      let b0 = h.bound in
+      let b1 = h.in_b in
+      let b2 = h.in_c in
+      let b3 = h.in_n in
+      let d1 = h.first in
+      let stays : (v : ℕ) → slice_index m v ≢ 0 → slice_index m3 v ≡ slice_index m v = λ v ne.
+      let e = old_mark v ne in
+      let low = flat v in
+      let e3 = settled v in
+      omega arith in
+      let alive : (v : ℕ) → slice_index m2 v ≢ 0 → slice_index m3 v ≢ 0 = λ v ne. let e3 = settled v in let some = live v ne in omega arith in
+      let stay1 = mark_stays g o t c n 0 2 ord m n ord1 m1 n1 gr1 in
+      let stay2 = mark_stays g o t a b 2 4 ord1 m1 n1 ord2 m2 n2 gr2 in
+      record {
+        kept = kept3;
+        first = omega arith;
+        in_b = b2;
+        in_c = b3;
+        in_n = omega arith;
+        bound = omega arith;
+        settled = λ i lt. elim (cases_lt i n) [
+          | inl l ↦ rw (same_entry i l) (settled_later g o t s m m3 a b c d n i (slice_index ord i) stays l b1 b2 (h.settled i l))
+          | inr ni ↦ (
+              let e = entry i ni lt in
+              let j = e.from in
+              let jn = e.older in
+              let few = e.few in
+              let mark = e.mark in
+              let e3 = settled (slice_index ord2 i) in
+              let hj = h.settled j jn in
+              let tr : Trace g o t m3 s (slice_index ord2 j) hj.back hj.cost = rw (same_entry j jn) (Trace-more g o t s m m3 stays (slice_index ord j) hj.back hj.cost hj.trace) in
+              let is : slice_index m3 (slice_index ord2 i) ≡ e.way + 1 = omega arith in
+              settled_new g o t s m m3 b c d n i (slice_index ord2 i) (slice_index ord2 j) hj.back hj.cost j e.way tr hj.size (omega arith) few
+              (e.costs hj.cost hj.level) ni is e.is e.back e.free e.unmarked h.all)
+        ];
+        all = all_later g o t s ord m ord1 m1 m3 a b c d n d1 b1 b2 h.kept.found h.settled h.all
+            (λ v ne. alive v (stay2 v (stay1 v ne))) (λ v ne. alive v (stay2 v ne)) gr1.prefix steps
+            (λ j k ja jb ka kb v is free. alive v (vias j k ja jb ka kb v is free));
+      }
+
+  pub next_level : (ord3 m3 : List ℕ) (n3 : ℕ) → ord3 ≡ ord2 → n3 ≡ n2 → a < n
+      → ((j k : ℕ) → c ≤ j → j < n → 0 ≤ k → k < 2 → IsSpread g o t ord m1 j k)
+      → ((j k : ℕ) → a ≤ j → j < b → 2 ≤ k → k < 4 → IsSpread g o t ord1 m2 j k)
+      → Kept ord3 m3 n3 → ((v : ℕ) → slice_index m3 v ≡ slice_index m2 v % 8)
+      → Searched g o t s ord3 m3 b c n (d + 1) n3
+  next_level ord3 m3 n3 eo en an steps vias kept3 settled = rw (eo, en) (level_on m3 an steps vias (rw (eo, en) at kept3) settled)
 
 -- before the first level
 all_begin : (g : Grid) (o : List ℕ) (t s : ℕ) (m : List ℕ) → slice_index m s ≡ 5 → AllMarked g o t s m 1

@@ -45,7 +45,7 @@ decide v (x ∷ xs) = elim (cases_eq v x) [
 pub record Step (b b' : Board) (net target mark : ℕ) (path : List ℕ) (m : Move) : Type 0 where
   pub grid : b'.room.grid ≡ b.room.grid
   pub room : IsRoom b'.room
-  pub idle : IsIdle b'.frontier (nodes b.room.grid)
+  pub idle : IsIdle b'.frontier.order.items b'.frontier.marks.items (nodes b.room.grid)
   pub within : (v : ℕ) → In v path → v < nodes b.room.grid
   pub aimed : In target path
   pub small : net ≢ 4294967295
@@ -190,16 +190,16 @@ taken g g' net path o l o' l' eg small h =
     }
 
 -- ---- begin
-pub sound_bare : (b : Board) → IsRoom b.room → IsIdle b.frontier (nodes b.room.grid) → IsIdle b.log (nodes b.room.grid) → b.log.count ≡ 0
+pub sound_bare : (b : Board) → IsRoom b.room → IsIdle b.frontier.order.items b.frontier.marks.items (nodes b.room.grid) → IsIdle b.log.order.items b.log.marks.items (nodes b.room.grid) → b.log.count ≡ 0
     → ((v : ℕ) → slice_index b.room.links.items v ≡ 0) → IsSound b × (moves_of b ≡ [])
 sound_bare b room idle log count unlinked =
     let none : moves_of b ≡ [] = rw count refl in
-    let empty : Kept b.log.order.items b.log.marks.items 0 = Kept-none b.log.order.items b.log.marks.items (log.order ∙ sym log.marks) log.clear in (
+    let empty : Kept b.log.order.items b.log.marks.items 0 = Kept-none b.log.order.items b.log.marks.items (log.places ∙ sym log.size) log.clear in (
       record {
         room = room;
         idle = idle;
         log = rw count empty;
-        logged = log.marks;
+        logged = log.size;
         linked = λ v nz. absurd (nz (log.clear v));
         owned = λ v nz. absurd (nz (unlinked v));
         told = λ v nz not_two not_nine. absurd (nz (log.clear v));
@@ -308,7 +308,7 @@ forth_of : (b : Board) (net : ℕ) → IsSound b → (v : ℕ) → v < nodes b.r
 forth_of b net s v lt own = subst (λ (k : ℕ). In (node_of b.room.grid v) (tree_nodes (routes_of (moves_of b) k))) own.1 (s.forth v lt own.0)
 
 pub touched : (b b' : Board) (net c : ℕ) (q : Node) (t : Tree) → IsSound b → routes_of (moves_of b) net ≡ Some t → IsInGrid b.room.grid q
-    → slice_index b.log.marks.items (number b.room.grid q) ≡ 0 → IsIdle b'.frontier (nodes b.room.grid) → Touches net (number b.room.grid q) c b b'
+    → slice_index b.log.marks.items (number b.room.grid q) ≡ 0 → IsIdle b'.frontier.order.items b'.frontier.marks.items (nodes b.room.grid) → Touches net (number b.room.grid q) c b b'
     → IsSound b' × Connects net q c (routing_of b) (routing_of b') (q ∷ [])
 touched b b' net c q tree s begun hq fresh idle h =
     let g = b.room.grid in
@@ -376,7 +376,7 @@ comes b net q (x ∷ rest) s hq p =
     subst (λ (n : Node). Comes b.room.grid b.room.owners.items b.room.links.items net (number b.room.grid q) (0 + field.cost_from n rest)) (sym p.0) r
 
 pub reached : (b b' : Board) (net c : ℕ) (q : Node) (t : Tree) → IsSound b → routes_of (moves_of b) net ≡ Some t → IsInGrid b.room.grid q
-    → slice_index b.log.marks.items (number b.room.grid q) ≡ 0 → IsIdle b'.frontier (nodes b.room.grid) → Reaches net (number b.room.grid q) c b b'
+    → slice_index b.log.marks.items (number b.room.grid q) ≡ 0 → IsIdle b'.frontier.order.items b'.frontier.marks.items (nodes b.room.grid) → Reaches net (number b.room.grid q) c b b'
     → IsSound b' × ((path : List Node) × Connects net q c (routing_of b) (routing_of b') path)
 reached b b' net c q tree s begun hq fresh idle h =
     let g = b.room.grid in
@@ -447,7 +447,7 @@ stuck b b' net q s hq h (x ∷ y ∷ rest) p =
     h.none free r.from r.back (0 + cost (x ∷ y ∷ rest)) r.own r.leads
 
 -- nothing changed
-pub sound_same : (b b' : Board) (net target : ℕ) → IsSound b → IsIdle b'.frontier (nodes b.room.grid) → IsStuck net target b b' → IsSound b' × (routing_of b' ≡ routing_of b)
+pub sound_same : (b b' : Board) (net target : ℕ) → IsSound b → IsIdle b'.frontier.order.items b'.frontier.marks.items (nodes b.room.grid) → IsStuck net target b b' → IsSound b' × (routing_of b' ≡ routing_of b)
 sound_same b b' net target s idle h =
     let er = h.room in
     let el = h.log in (
@@ -484,7 +484,7 @@ some_tree None ne = absurd (ne refl)
 some_tree (Some t) ne = (t, refl)
 
 pub connected : (b b' : Board) (net c : ℕ) (q : Node) → IsSound b → routes_of (moves_of b) net ≢ None → IsInGrid b.room.grid q
-    → (IsPoint (routes_of (moves_of b) net) q → ⊥) → IsIdle b'.frontier (nodes b.room.grid)
+    → (IsPoint (routes_of (moves_of b) net) q → ⊥) → IsIdle b'.frontier.order.items b'.frontier.marks.items (nodes b.room.grid)
     → Touches net (number b.room.grid q) c b b' ⊎ Reaches net (number b.room.grid q) c b b'
     → IsSound b' × ((path : List Node) × Connects net q c (routing_of b) (routing_of b') path)
 connected b b' net c q s begun hq new idle (inl h) =

@@ -1,9 +1,9 @@
 -- Why a search by levels finds the least cost, and finds that there is no path.
-use Rattle.std.proofs.Common.{ℕ, zero, suc, ◌≡◌, ◌≢◌, ◌+◌, ◌-◌, ◌<◌, ◌≤◌, ◌⊎◌, inl, inr, List, [], ◌∷◌, length, get_or, set, Some, slice_index, arith, sym, ◌∙◌, ap, refl, get_or-set_same, get_or-set_other, length-set, add-one}
+use Rattle.std.proofs.Common.{ℕ, zero, suc, ◌≡◌, ◌≢◌, ◌+◌, ◌-◌, ◌%◌, ◌<◌, ◌≤◌, ◌⊎◌, inl, inr, List, [], ◌∷◌, length, get_or, set, Some, slice_index, arith, sym, ◌∙◌, ap, refl, subst, get_or-set_same, get_or-set_other, length-set, add-one}
 use Rattle.std.proofs.lemmas.Bool.{cases_lt, cases_eq}
 use Rattle.grid_core.specs.declared.grid.Grid.{Grid}
 use Rattle.nero_maze.specs.Ways.{next, weight, opposite}
-use Rattle.nero_maze.specs.Search.{IsFree, LeadsTo, NoneBelow, Trace, Kept, Grown, Reached, zeros}
+use Rattle.nero_maze.specs.Search.{IsFree, LeadsTo, NoneBelow, Trace, Kept, Stays, Grown, Reached, zeros}
 
 -- What the search knows before level d: entries below `a` are settled for good, those of a..b, b..c and c..n cost d-3, d-2 and d-1.
 abbrev pub IsAtLevel : ℕ → ℕ → ℕ → ℕ → ℕ → ℕ → Type 0
@@ -89,48 +89,75 @@ closed g o t s ord m a b c d n d1 na ab bc found settled all v (u ∷ back) e (f
     let is' : next g (slice_index ord i) k ≡ Some v = rw at.2 is in
     all v (slice_index ord i ∷ set_i.back) (x + weight k) (free, (k, below, is', (x, path_u, refl))) less
 
+-- ---- marks of a level
+pub Stays-on : (a b c : ℕ) → Stays a b → Stays b c → Stays a c
+Stays-on a b c (inl e) (inl f) = inl (f ∙ e)
+Stays-on a b c (inl e) (inr (x, y)) = inr (omega arith, y)
+Stays-on a b c (inr (x, y)) (inl f) = inr (x, omega arith)
+Stays-on a b c (inr (x, y)) (inr (z, w)) = inr (x, w)
+
+pub still_fresh : (a b : ℕ) → 8 < a → Stays a b → 8 < b
+still_fresh a b h (inl e) = omega arith
+still_fresh a b h (inr (x, y)) = y
+
+still_some : (a b : ℕ) → a ≢ 0 → Stays a b → b ≢ 0
+still_some a b ne (inl e) = omega arith
+still_some a b ne (inr (x, y)) = omega arith
+
 -- a marked node stays marked
 pub mark_stays : (g : Grid) (o : List ℕ) (t from to low high : ℕ) (ord m : List ℕ) (n : ℕ) (ord' m' : List ℕ) (n' : ℕ)
     → Grown g o t from to low high ord m n ord' m' n' → (v : ℕ) → slice_index m v ≢ 0 → slice_index m' v ≢ 0
-mark_stays g o t from to low high ord m n ord' m' n' h v ne = let e = h.stays v ne in omega arith
+mark_stays g o t from to low high ord m n ord' m' n' h v ne = still_some (slice_index m v) (slice_index m' v) ne (h.stays v ne)
 
 pub unmarked_before : (g : Grid) (o : List ℕ) (t from to low high : ℕ) (ord m : List ℕ) (n : ℕ) (ord' m' : List ℕ) (n' : ℕ)
     → Grown g o t from to low high ord m n ord' m' n' → (v : ℕ) → slice_index m' v ≡ 0 → slice_index m v ≡ 0
 unmarked_before g o t from to low high ord m n ord' m' n' h v z =
     elim (cases_eq (slice_index m v) 0) [ inl e ↦ e | inr ne ↦ (let e = mark_stays g o t from to low high ord m n ord' m' n' h v ne in absurd (e z)) ]
 
--- how an entry was reached is told by later arrays too
-pub Reached-more : (g : Grid) (o : List ℕ) (t from to low high f' t' l' h' : ℕ) (ord m : List ℕ) (n : ℕ) (ord' m' : List ℕ) (n' : ℕ)
-    → Grown g o t f' t' l' h' ord m n ord' m' n' → (i : ℕ) → i < n
+-- how an entry was reached is told by later arrays too, where its mark stays
+pub Reached-more : (g : Grid) (o : List ℕ) (t from to low high : ℕ) (ord m : List ℕ) (n : ℕ) (ord' m' : List ℕ) → to ≤ n
+    → ((i : ℕ) → i < n → slice_index ord' i ≡ slice_index ord i) → (i : ℕ) → i < n → slice_index m' (slice_index ord' i) ≡ slice_index m (slice_index ord' i)
     → Reached g o t ord m from to low high i → Reached g o t ord' m' from to low high i
-Reached-more g o t from to low high f' t' l' h' ord m n ord' m' n' grown i lt (j, fj, jt, ji, (k, lk, kh, mark, is, from_is, free)) =
+Reached-more g o t from to low high ord m n ord' m' tn prefix i lt same (j, fj, jt, (k, lk, kh, mark, is, from_is, free)) =
     let jn : j < n = omega arith in
-    let ei = grown.prefix i lt in
-    let ej = grown.prefix j jn in
-    let ne : slice_index m (slice_index ord i) ≢ 0 = omega arith in
-    let em = grown.stays (slice_index ord i) ne in
-    (j, fj, jt, ji, (k, lk, kh, rw ei (em ∙ mark), rw (ei, ej) is, rw (ei, ej) from_is, rw ei free))
+    let ei = prefix i lt in
+    let ej = prefix j jn in
+    (j, fj, jt, (k, lk, kh, same ∙ rw ei mark, rw (ei, ej) is, rw (ei, ej) from_is, rw ei free))
 
-pub Grown-step : (g : Grid) (o : List ℕ) (t from to low high j k : ℕ) (ord m : List ℕ) (n : ℕ) (ord1 m1 : List ℕ) (n1 : ℕ) (ord2 m2 : List ℕ) (n2 : ℕ)
+pub Grown-step : (g : Grid) (o : List ℕ) (t from to low high j k : ℕ) (ord m : List ℕ) (n : ℕ) (ord1 m1 : List ℕ) (n1 : ℕ) (ord2 m2 : List ℕ) (n2 : ℕ) → to ≤ n
     → Grown g o t from to low high ord m n ord1 m1 n1 → Grown g o t j (j + 1) k (k + 1) ord1 m1 n1 ord2 m2 n2
     → from ≤ j → j < to → low ≤ k → k < high → Grown g o t from to low high ord m n ord2 m2 n2
-Grown-step g o t from to low high j k ord m n ord1 m1 n1 ord2 m2 n2 h h2 fj jt lk kh =
+Grown-step g o t from to low high j k ord m n ord1 m1 n1 ord2 m2 n2 tn h h2 fj jt lk kh =
     let more1 = h.more in
     let more2 = h2.more in
     record {
       more = omega arith;
       size = h2.size ∙ h.size;
       prefix = λ i lt. let lt1 : i < n1 = omega arith in h2.prefix i lt1 ∙ h.prefix i lt;
-      stays = λ v ne. h2.stays v (mark_stays g o t from to low high ord m n ord1 m1 n1 h v ne) ∙ h.stays v ne;
+      stays = λ v ne. Stays-on (slice_index m v) (slice_index m1 v) (slice_index m2 v) (h.stays v ne) (h2.stays v (mark_stays g o t from to low high ord m n ord1 m1 n1 h v ne));
       fresh = λ i ni lt. elim (cases_lt i n1) [
-        | inl l1 ↦ rw (h2.prefix i l1) (h.fresh i ni l1)
-        | inr g1 ↦ unmarked_before g o t from to low high ord m n ord1 m1 n1 h (slice_index ord2 i) (h2.fresh i g1 lt)
+        | inl l1 ↦ (
+            let f = h.fresh i ni l1 in
+            let f1 = f.1 in
+            let ne : slice_index m1 (slice_index ord1 i) ≢ 0 = omega arith in
+            let p = h2.prefix i l1 in
+            (rw p f.0, rw p (still_fresh (slice_index m1 (slice_index ord1 i)) (slice_index m2 (slice_index ord1 i)) f1 (h2.stays (slice_index ord1 i) ne))))
+        | inr g1 ↦ (let f = h2.fresh i g1 lt in (unmarked_before g o t from to low high ord m n ord1 m1 n1 h (slice_index ord2 i) f.0, f.1))
       ];
-      reached = λ i ni lt. elim (cases_lt i n1) [
-        | inl l1 ↦ Reached-more g o t from to low high j (j + 1) k (k + 1) ord1 m1 n1 ord2 m2 n2 h2 i l1 (h.reached i ni l1)
-        | inr g1 ↦ (
-            let (j', a1, a2, a3, (k', b1, b2, mark, is, from_is, free)) = h2.reached i g1 lt in
-            (j', omega arith, omega arith, a3, (k', omega arith, omega arith, mark, is, from_is, free)))
+      reached = λ i lt fresh. elim (h2.reached i lt fresh) [
+        | inl r ↦ (
+            let (j', a1, a2, (k', b1, b2, mark, is, from_is, free)) = r in
+            inl (j', omega arith, omega arith, (k', omega arith, omega arith, mark, is, from_is, free)))
+        | inr r ↦ (
+            let l1 = r.0 in
+            let same = r.1 in
+            let p = h2.prefix i l1 in
+            let here : 8 < slice_index m1 (slice_index ord2 i) = omega arith in
+            let fresh1 : 8 < slice_index m1 (slice_index ord1 i) = subst (λ (x : ℕ). 8 < slice_index m1 x) p here in
+            elim (h.reached i l1 fresh1) [
+              | inl r1 ↦ inl (Reached-more g o t from to low high ord1 m1 n1 ord2 m2 (omega arith) h2.prefix i l1 same r1)
+              | inr r0 ↦ inr (r0.0, same ∙ rw p r0.1)
+            ])
       ];
     }
 
@@ -141,9 +168,9 @@ Grown-none g o t from to low high ord m n =
       more = omega arith;
       size = refl;
       prefix = λ i lt. refl;
-      stays = λ v ne. refl;
+      stays = λ v ne. inl refl;
       fresh = λ i ni lt. (let no : ⊥ = omega arith in absurd no);
-      reached = λ i ni lt. (let no : ⊥ = omega arith in absurd no);
+      reached = λ i lt fresh. inr (lt, refl);
     }
 
 -- one node more
@@ -188,35 +215,134 @@ Kept-more ord m n to way kept lt z =
 pub Grown-one : (g : Grid) (o : List ℕ) (t at way : ℕ) (ord m : List ℕ) (n to : ℕ) → Kept ord m n
     → at < n → to < length m → slice_index m to ≡ 0 → next g (slice_index ord at) way ≡ Some to
     → next g to (opposite way) ≡ Some (slice_index ord at) → IsFree o t to
-    → Grown g o t at (at + 1) way (way + 1) ord m n (set ord n to) (set m to (way + 1)) (n + 1)
+    → Grown g o t at (at + 1) way (way + 1) ord m n (set ord n to) (set m to (way + 9)) (n + 1)
 Grown-one g o t at way ord m n to kept at_lt lt z is back free =
     let len = kept.same in
     let n_lt : n < length ord = let r = room ord m n to kept lt z in omega arith in
     let same_n = get_or-set_same ord n to 0 n_lt in
-    let same_to = get_or-set_same m to (way + 1) 0 lt in
+    let same_to = get_or-set_same m to (way + 9) 0 lt in
     let at_ne : at ≢ n = omega arith in
     let same_at = get_or-set_other ord n at to 0 at_ne in
     record {
       more = omega arith;
-      size = length-set m to (way + 1);
+      size = length-set m to (way + 9);
       prefix = λ i below. let ne : i ≢ n = omega arith in get_or-set_other ord n i to 0 ne;
-      stays = λ v ne. let other : v ≢ to = (λ e. ne (ap (λ x. slice_index m x) e ∙ z)) in get_or-set_other m to v (way + 1) 0 other;
-      fresh = λ i ni below. let e : i ≡ n = omega arith in rw (e, same_n) z;
-      reached = λ i ni below. let e : i ≡ n = omega arith in (
-        at,
-        omega arith,
-        omega arith,
-        omega arith,
-        (
-          way,
+      stays = λ v ne. let other : v ≢ to = (λ e. ne (ap (λ x. slice_index m x) e ∙ z)) in inl (get_or-set_other m to v (way + 9) 0 other);
+      fresh = λ i ni below. let e : i ≡ n = omega arith in (rw (e, same_n) z, rw (e, same_n, same_to) (omega arith));
+      reached = λ i below fresh. elim (cases_eq i n) [
+        | inl e ↦ inl (
+          at,
           omega arith,
           omega arith,
-          rw (e, same_n) same_to,
-          rw (e, same_n, same_at) is,
-          rw (e, same_n, same_at) back,
-          rw (e, same_n) free,
-        ),
-      );
+          (
+            way,
+            omega arith,
+            omega arith,
+            rw (e, same_n) same_to,
+            rw (e, same_n, same_at) is,
+            rw (e, same_n, same_at) back,
+            rw (e, same_n) free,
+          ),
+        )
+        | inr ne ↦ (
+            let less : i < n = omega arith in
+            let p = get_or-set_other ord n i to 0 ne in
+            let marked = kept.marked i less in
+            let other : slice_index ord i ≢ to = λ e. marked (ap (λ x. slice_index m x) e ∙ z) in
+            inr (less, rw p (get_or-set_other m to (slice_index ord i) (way + 9) 0 other)))
+      ];
+    }
+
+-- a node of this level that is reached another way
+zeros-again : (xs : List ℕ) (i x : ℕ) → get_or xs i 0 ≢ 0 → zeros (set xs i (suc x)) ≡ zeros xs
+zeros-again [] i x ne = refl
+zeros-again (zero ∷ xs) zero x ne = absurd (ne refl)
+zeros-again (suc y ∷ xs) zero x ne = refl
+zeros-again (zero ∷ xs) (suc i) x ne = ap suc (zeros-again xs i x ne)
+zeros-again (suc y ∷ xs) (suc i) x ne = zeros-again xs i x ne
+
+pub Kept-again : (ord m : List ℕ) (n to x : ℕ) → Kept ord m n → to < length m → slice_index m to ≢ 0 → Kept ord (set m to (x + 1)) n
+Kept-again ord m n to x kept lt ne =
+    let same_to = get_or-set_same m to (x + 1) 0 lt in
+    let len_m = length-set m to (x + 1) in
+    record {
+      same = kept.same ∙ sym len_m;
+      full = (let e = zeros-again m to x ne in let f = kept.full in rw (len_m, add-one x, e) f);
+      listed = λ i below. rw len_m (kept.listed i below);
+      marked = λ i below. elim (cases_eq (slice_index ord i) to) [
+        | inl e ↦ rw (e, same_to) (omega arith)
+        | inr other ↦ rw (get_or-set_other m to (slice_index ord i) (x + 1) 0 other) (kept.marked i below)
+      ];
+      found = λ v some. elim (cases_eq v to) [
+        | inl e ↦ (let f = kept.found to ne in (f.0, f.1, f.2 ∙ sym e))
+        | inr other ↦ kept.found v (rw (get_or-set_other m to v (x + 1) 0 other) at some)
+      ];
+    }
+
+pub Grown-again : (g : Grid) (o : List ℕ) (t at way : ℕ) (ord m : List ℕ) (n to : ℕ)
+    → at < n → to < length m → 8 < slice_index m to → next g (slice_index ord at) way ≡ Some to
+    → next g to (opposite way) ≡ Some (slice_index ord at) → IsFree o t to
+    → Grown g o t at (at + 1) way (way + 1) ord m n ord (set m to (way + 9)) n
+Grown-again g o t at way ord m n to at_lt lt fresh is back free =
+    let same_to = get_or-set_same m to (way + 9) 0 lt in
+    record {
+      more = omega arith;
+      size = length-set m to (way + 9);
+      prefix = λ i below. refl;
+      stays = λ v ne. elim (cases_eq v to) [
+        | inl e ↦ inr (rw e fresh, rw (e, same_to) (omega arith))
+        | inr other ↦ inl (get_or-set_other m to v (way + 9) 0 other)
+      ];
+      fresh = λ i ni lt. (let no : ⊥ = omega arith in absurd no);
+      reached = λ i below high. elim (cases_eq (slice_index ord i) to) [
+        | inl e ↦ inl (at, omega arith, omega arith, (way, omega arith, omega arith, rw e same_to, rw e is, rw e back, rw e free))
+        | inr other ↦ inr (below, get_or-set_other m to (slice_index ord i) (way + 9) 0 other)
+      ];
+    }
+
+pub Grown-prefer : (g : Grid) (o : List ℕ) (t at way mark : ℕ) (ord m : List ℕ) (n to : ℕ) (ord' m' : List ℕ) (n' : ℕ)
+    → at < n → to < length m → 8 < slice_index m to → next g (slice_index ord at) way ≡ Some to
+    → next g to (opposite way) ≡ Some (slice_index ord at) → IsFree o t to → mark ≡ way + 9
+    → ord' ≡ ord → n' ≡ n → (m' ≡ m) ⊎ (m' ≡ set m to mark)
+    → Grown g o t at (at + 1) way (way + 1) ord m n ord' m' n'
+Grown-prefer g o t at way mark ord m n to ord' m' n' at_lt lt fresh is back free nine eo en either = rw (eo, en) (elim either [
+  | inl e ↦ rw e (Grown-none g o t at (at + 1) way (way + 1) ord m n)
+  | inr e ↦ rw (e, nine) (Grown-again g o t at way ord m n to at_lt lt fresh is back free)
+])
+
+-- one mark more is settled
+pub record Settles (ord m0 m : List ℕ) (n from i : ℕ) : Type 0 where
+  pub kept : Kept ord m n
+  pub either : (v : ℕ) → (slice_index m v ≡ slice_index m0 v) ⊎ (slice_index m v ≡ slice_index m0 v % 8)
+  pub done : (k : ℕ) → from ≤ k → k < i → slice_index m (slice_index ord k) ≡ slice_index m0 (slice_index ord k) % 8
+
+pub settle_one : (ord m0 m : List ℕ) (n from i node x : ℕ) → Settles ord m0 m n from i → ((v : ℕ) → slice_index m0 v ≢ 0 → slice_index m0 v % 8 ≢ 0)
+    → i < n → slice_index ord i ≡ node → slice_index m node ≡ x → Settles ord m0 (set m node (x % 8)) n from (i + 1)
+settle_one ord m0 m n from i node x h live lt at is =
+    let lt_m : node < length m = subst (λ (v : ℕ). v < length m) at (h.kept.listed i lt) in
+    let ne : slice_index m node ≢ 0 = subst (λ (v : ℕ). slice_index m v ≢ 0) at (h.kept.marked i lt) in
+    let same : x % 8 ≡ slice_index m0 node % 8 = elim (h.either node) [ inl e ↦ omega arith | inr e ↦ omega arith ] in
+    let some : slice_index m0 node ≢ 0 = elim (h.either node) [ inl e ↦ omega arith | inr e ↦ omega arith ] in
+    let left = live node some in
+    let less : x % 8 - 1 + 1 ≡ x % 8 = omega arith in
+    let kept = Kept-again ord m n node (x % 8 - 1) h.kept lt_m ne in
+    let new = get_or-set_same m node (x % 8) 0 lt_m in
+    record {
+      kept = subst (λ (y : ℕ). Kept ord (set m node y) n) less kept;
+      either = λ v. elim (cases_eq v node) [
+        | inl e ↦ inr (rw e (new ∙ same))
+        | inr other ↦ elim (h.either v) [
+          | inl a ↦ inl (get_or-set_other m node v (x % 8) 0 other ∙ a)
+          | inr a ↦ inr (get_or-set_other m node v (x % 8) 0 other ∙ a)
+        ]
+      ];
+      done = λ k fk ki. elim (cases_eq (slice_index ord k) node) [
+        | inl e ↦ rw e (new ∙ same)
+        | inr other ↦ (
+            let k_ne : k ≢ i = λ e. other (ap (λ (j : ℕ). slice_index ord j) e ∙ at) in
+            let less_k : k < i = omega arith in
+            get_or-set_other m node (slice_index ord k) (x % 8) 0 other ∙ h.done k fk less_k)
+      ];
     }
 
 -- where the walk goes from a node that is not the target

@@ -53,7 +53,7 @@ AreBegun (Joined k path ∷ before) = ((t : Tree) × (routes_of before k ≡ Som
 -- what is true of the arrays between two calls
 pub record IsSound (b : Board) : Type 0 where
   pub room : IsRoom b.room
-  pub idle : IsIdle b.frontier (nodes b.room.grid)
+  pub idle : IsIdle b.frontier.order.items b.frontier.marks.items (nodes b.room.grid)
   pub log : Kept b.log.order.items b.log.marks.items b.log.count
   pub logged : length b.log.marks.items ≡ nodes b.room.grid
   pub linked : (v : ℕ) → slice_index b.log.marks.items v ≢ 0 → slice_index b.room.links.items v ≢ 0

@@ -3,7 +3,6 @@ use Rattle.std.specs.Prelude.{ℕ, zero, suc, ◌≡◌, ◌≢◌, ◌+◌, ◌
 use Rattle.grid_core.specs.declared.grid.Grid.{Grid}
 use Rattle.grid_core.specs.Numbers.{nodes}
 use Rattle.nero_maze.specs.declared.frontier.Room.{Room}
-use Rattle.nero_maze.specs.declared.frontier.Marked.{Marked}
 use Rattle.nero_maze.specs.Ways.{weight, opposite, next}
 
 -- free for the net: without an owner, or the net's own
@@ -43,24 +42,30 @@ pub record Kept (order marks : List ℕ) (n : ℕ) : Type 0 where
   pub marked : (i : ℕ) → i < n → slice_index marks (slice_index order i) ≢ 0
   pub found : (v : ℕ) → slice_index marks v ≢ 0 → (i : ℕ) × (i < n) × (slice_index order i ≡ v)
 
--- Entry `i` was reached from an entry of from..to, on a way of low..high.
+-- Entry `i` was reached at this level, from an entry of from..to, on a way of low..high: its mark is nine more than the way.
 abbrev pub Reached : Grid → List ℕ → ℕ → List ℕ → List ℕ → ℕ → ℕ → ℕ → ℕ → ℕ → Type 0
 Reached g owners net order marks from to low high i =
-    (j : ℕ) × (from ≤ j) × (j < to) × (j < i) × ((k : ℕ) × (low ≤ k) × (k < high)
-    × (slice_index marks (slice_index order i) ≡ k + 1)
+    (j : ℕ) × (from ≤ j) × (j < to) × ((k : ℕ) × (low ≤ k) × (k < high)
+    × (slice_index marks (slice_index order i) ≡ k + 9)
     × (next g (slice_index order j) k ≡ Some (slice_index order i))
     × (next g (slice_index order i) (opposite k) ≡ Some (slice_index order j))
     × IsFree owners net (slice_index order i))
 
--- What a part of the search adds.
+-- a mark stays, or is of this level before and after
+abbrev pub Stays : ℕ → ℕ → Type 0
+Stays mark mark' = (mark' ≡ mark) ⊎ ((8 < mark) × (8 < mark'))
+
+-- What a part of the search adds. Marks of this level may be written anew.
 pub record Grown (g : Grid) (owners : List ℕ) (net : ℕ) (from to low high : ℕ)
     (order marks : List ℕ) (n : ℕ) (order' marks' : List ℕ) (n' : ℕ) : Type 0 where
   pub more : n ≤ n'
   pub size : length marks' ≡ length marks
   pub prefix : (i : ℕ) → i < n → slice_index order' i ≡ slice_index order i
-  pub stays : (v : ℕ) → slice_index marks v ≢ 0 → slice_index marks' v ≡ slice_index marks v
-  pub fresh : (i : ℕ) → n ≤ i → i < n' → slice_index marks (slice_index order' i) ≡ 0
-  pub reached : (i : ℕ) → n ≤ i → i < n' → Reached g owners net order' marks' from to low high i
+  pub stays : (v : ℕ) → slice_index marks v ≢ 0 → Stays (slice_index marks v) (slice_index marks' v)
+  pub fresh : (i : ℕ) → n ≤ i → i < n' → (slice_index marks (slice_index order' i) ≡ 0) × (8 < slice_index marks' (slice_index order' i))
+  pub reached : (i : ℕ) → i < n' → 8 < slice_index marks' (slice_index order' i)
+      → Reached g owners net order' marks' from to low high i
+      ⊎ ((i < n) × (slice_index marks' (slice_index order' i) ≡ slice_index marks (slice_index order' i)))
 
 -- Each free neighbour of entry `j` on way `k` has a mark.
 abbrev pub IsSpread : Grid → List ℕ → ℕ → List ℕ → List ℕ → ℕ → ℕ → Type 0
@@ -78,7 +83,7 @@ abbrev pub IsOwn : List ℕ → List ℕ → ℕ → ℕ → Type 0
 IsOwn owners links net v = (slice_index links v ≢ 0) × (slice_index owners v ≡ net)
 
 -- there is a place for each of n nodes, and none has a mark
-pub record IsIdle (m : Marked) (n : ℕ) : Type 0 where
-  pub order : length m.order.items ≡ n
-  pub marks : length m.marks.items ≡ n
-  pub clear : (v : ℕ) → slice_index m.marks.items v ≡ 0
+pub record IsIdle (order marks : List ℕ) (n : ℕ) : Type 0 where
+  pub places : length order ≡ n
+  pub size : length marks ≡ n
+  pub clear : (v : ℕ) → slice_index marks v ≡ 0

@@ -5,7 +5,7 @@ ghost use Rattle.nero_maze.specs.Search.{IsIdle};
 ghost use Rattle.nero_maze.specs.Board.{IsSound, Logs, Touches, Reaches, IsStuck};
 
 use crate::claim::claim;
-use crate::frontier::{Marked, Room, clear, push};
+use crate::frontier::{Frontier, Marked, Room, clear, push};
 use crate::search::search;
 use grid_core::NOBODY;
 
@@ -16,11 +16,11 @@ const REACHED: u8 = 1;
 /// The mark of one that was in the net's tree already.
 pub(crate) const TOUCHED: u8 = 2;
 
-/// All arrays: 15 bytes a node.
+/// All arrays: 15 bytes a node, and three for each penalty.
 #[derive(Drop)]
 pub(crate) struct Board {
     pub(crate) room: Room,
-    pub(crate) frontier: Marked,
+    pub(crate) frontier: Frontier,
     pub(crate) log: Marked,
 }
 
@@ -45,7 +45,7 @@ pub(crate) fn join(board: &mut Board, net: u32, target: u32) -> Option<u64>
     requires sound { IsSound board.old }
     requires target { target < nodes board.old.room.grid }
     requires new { (slice_index board.old.log.marks.items target ≡ 0) ⊎ (slice_index board.old.room.owners.items target ≢ net) }
-    ensures idle { IsIdle board.new.frontier (nodes board.old.room.grid) }
+    ensures idle { IsIdle board.new.frontier.order.items board.new.frontier.marks.items (nodes board.old.room.grid) }
     ensures joins { IfSome result (λ c. Touches net target c board.old board.new ⊎ Reaches net target c board.old board.new) }
     ensures stuck { IfNone result (IsStuck net target board.old board.new) }
 {

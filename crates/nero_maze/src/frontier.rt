@@ -1,14 +1,17 @@
 // The nodes that a search has reached.
-ghost use Rattle.std.specs.Prelude.{◌≡◌, ◌≢◌, ℕ, ◌+◌, ◌<◌, ◌≤◌, IfNone, IfOk, IfSome, length, slice_index, slice_set};
+ghost use Rattle.std.specs.Prelude.{◌≡◌, ◌≢◌, ℕ, ◌+◌, ◌%◌, ◌<◌, ◌≤◌, ◌⊎◌, IfNone, IfOk, IfSome, length, slice_index, slice_set};
 ghost use Rattle.grid_core.specs.Numbers.{nodes};
 ghost use Rattle.nero_maze.specs.Search.{IsRoom, IsOwn, IsIdle, Kept, Grown, IsSpread};
 
+use crate::penalties::Ties;
 use crate::way::step;
 use grid_core::{Grid, NOBODY};
 use std::alloc::{AllocError, Global};
 
 /// The mark of the node at which a search begins; other marks are one more than the way by which the node was reached.
 pub(crate) const START: u8 = 5;
+/// What is added to the mark of a node that was reached at this level of cost, as long as another way of this cost may take its place.
+const FRESH: u8 = 8;
 
 /// The grid, the owners of its nodes, and what is not 0 where a node is in a tree.
 #[derive(Drop)]
@@ -26,6 +29,16 @@ pub(crate) struct Marked {
     pub(crate) count: usize,
 }
 
+/// What a search has reached: nodes in the order in which they got a mark, for each node of the grid its mark or 0, and the sums of
+/// penalties that decide between ways of one cost.
+#[derive(Drop)]
+pub(crate) struct Frontier {
+    pub(crate) order: Vec<u32>,
+    pub(crate) marks: Vec<u8>,
+    pub(crate) count: usize,
+    pub(crate) ties: Ties,
+}
+
 /// A zero for each node.
 pub(crate) fn zeros(alloc: Global, nodes: usize) -> Result<Vec<u8>, AllocError>
     ensures size { IfOk result (λ zeros. length zeros.items ≡ nodes) }
@@ -36,7 +49,7 @@ pub(crate) fn zeros(alloc: Global, nodes: usize) -> Result<Vec<u8>, AllocError>
 
 /// No node has a mark yet. Takes five bytes for each of so many nodes.
 pub(crate) fn unmarked(alloc: Global, nodes: usize) -> Result<Marked, AllocError>
-    ensures idle { IfOk result (λ m. IsIdle m nodes) }
+    ensures idle { IfOk result (λ m. IsIdle m.order.items m.marks.items nodes) }
     ensures count { IfOk result (λ m. m.count ≡ 0) }
 {
     Ok(Marked {
@@ -69,8 +82,25 @@ pub(crate) struct Span {
     pub(crate) to: usize,
 }
 
-/// Marks the neighbour of entry `at` on a way, where it is free and has no mark.
-fn visit(room: &Room, net: u32, frontier: &mut Marked, at: usize, way: u8)
+/// Gives a node that was reached at this level another way of the same cost, if its sum of penalties is less.
+fn prefer(frontier: &mut Frontier, node: u32, mark: u8, sum: u16)
+    requires kept { Kept frontier.old.order.items frontier.old.marks.items frontier.old.count }
+    requires below { node < length frontier.old.marks.items }
+    requires fresh { 8 < slice_index frontier.old.marks.items node }
+    requires mark { 8 < mark }
+    ensures kept { Kept frontier.new.order.items frontier.new.marks.items frontier.new.count }
+    ensures order { frontier.new.order.items ≡ frontier.old.order.items }
+    ensures count { frontier.new.count ≡ frontier.old.count }
+    ensures marks { (frontier.new.marks.items ≡ frontier.old.marks.items) ⊎ (frontier.new.marks.items ≡ slice_set frontier.old.marks.items node mark) }
+{
+    if sum < frontier.ties.sum(node) {
+        frontier.ties.set(node, sum);
+        frontier.marks[node as usize] = mark;
+    }
+}
+
+/// Marks the neighbour of entry `at` on a way, where it is free and has no mark, or one of this level and a greater sum of penalties.
+fn visit(room: &Room, net: u32, frontier: &mut Frontier, at: usize, way: u8)
     requires room { IsRoom room.now }
     requires size { length frontier.old.marks.items ≡ nodes room.now.grid }
     requires kept { Kept frontier.old.order.items frontier.old.marks.items frontier.old.count }
@@ -83,23 +113,31 @@ fn visit(room: &Room, net: u32, frontier: &mut Marked, at: usize, way: u8)
         frontier.new.order.items frontier.new.marks.items frontier.new.count }
     ensures spread { IsSpread room.now.grid room.now.owners.items net frontier.old.order.items frontier.new.marks.items at way }
 {
-    let Some(to) = step(&room.grid, frontier.order[at], way) else {
+    let from = frontier.order[at];
+    let Some(to) = step(&room.grid, from, way) else {
         return;
     };
     let owner = room.owners[to as usize];
-    if frontier.marks[to as usize] != 0 {
-        return;
-    }
     if owner != NOBODY && owner != net {
         return;
     }
-    frontier.marks[to as usize] = way + 1;
+    let known = frontier.marks[to as usize];
+    let sum = frontier.ties.sum_on(from, to);
+    if known > FRESH {
+        prefer(frontier, to, way + 1 + FRESH, sum);
+        return;
+    }
+    if known != 0 {
+        return;
+    }
+    frontier.ties.set(to, sum);
+    frontier.marks[to as usize] = way + 1 + FRESH;
     frontier.order[frontier.count] = to;
     frontier.count += 1;
 }
 
 /// Marks the free neighbours of some entries on two ways.
-pub(crate) fn expand(room: &Room, net: u32, frontier: &mut Marked, span: Span, way: u8)
+pub(crate) fn expand(room: &Room, net: u32, frontier: &mut Frontier, span: Span, way: u8)
     requires room { IsRoom room.now }
     requires size { length frontier.old.marks.items ≡ nodes room.now.grid }
     requires kept { Kept frontier.old.order.items frontier.old.marks.items frontier.old.count }
@@ -120,8 +158,26 @@ pub(crate) fn expand(room: &Room, net: u32, frontier: &mut Marked, span: Span, w
     }
 }
 
+/// The entries from `from` on keep the ways by which they were reached.
+pub(crate) fn settle(frontier: &mut Frontier, from: usize)
+    requires kept { Kept frontier.old.order.items frontier.old.marks.items frontier.old.count }
+    requires live { (v : ℕ) → slice_index frontier.old.marks.items v ≢ 0 → slice_index frontier.old.marks.items v % 8 ≢ 0 }
+    requires settled { (i : ℕ) → i < from → i < frontier.old.count
+        → slice_index frontier.old.marks.items (slice_index frontier.old.order.items i) < 8 }
+    ensures kept { Kept frontier.new.order.items frontier.new.marks.items frontier.new.count }
+    ensures size { length frontier.new.marks.items ≡ length frontier.old.marks.items }
+    ensures order { frontier.new.order.items ≡ frontier.old.order.items }
+    ensures count { frontier.new.count ≡ frontier.old.count }
+    ensures marks { (v : ℕ) → slice_index frontier.new.marks.items v ≡ slice_index frontier.old.marks.items v % 8 }
+{
+    for i in from..frontier.count {
+        let node = frontier.order[i];
+        frontier.marks[node as usize] %= FRESH;
+    }
+}
+
 /// The first entry from `from` on that is in the net's own tree.
-pub(crate) fn met(room: &Room, net: u32, frontier: &Marked, from: usize) -> Option<u32>
+pub(crate) fn met(room: &Room, net: u32, frontier: &Frontier, from: usize) -> Option<u32>
     requires room { IsRoom room.now }
     requires kept { Kept frontier.now.order.items frontier.now.marks.items frontier.now.count }
     requires size { length frontier.now.marks.items ≡ nodes room.now.grid }
@@ -141,7 +197,7 @@ pub(crate) fn met(room: &Room, net: u32, frontier: &Marked, from: usize) -> Opti
 }
 
 /// Takes all marks away. It goes over the marked nodes alone.
-pub(crate) fn clear(frontier: &mut Marked)
+pub(crate) fn clear(frontier: &mut Frontier)
     requires kept { Kept frontier.old.order.items frontier.old.marks.items frontier.old.count }
     ensures clear { (v : ℕ) → slice_index frontier.new.marks.items v ≡ 0 }
     ensures marks { length frontier.new.marks.items ≡ length frontier.old.marks.items }

@@ -5,6 +5,7 @@ mod board;
 mod claim;
 mod frontier;
 mod history;
+mod penalties;
 mod router;
 mod search;
 mod way;

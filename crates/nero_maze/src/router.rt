@@ -7,8 +7,9 @@ ghost use Rattle.grid_core.specs.Routes.{tree_nodes};
 ghost use Rattle.nero_maze.specs.Routing.{tree_of, IsPoint, IsBare, Begins, Connects, NoneFrom, AreTrees};
 
 use crate::board::{Board, join, root};
-use crate::frontier::{Room, unmarked, zeros};
+use crate::frontier::{Frontier, Room, unmarked, zeros};
 use crate::history::trees_of;
+use crate::penalties::Ties;
 use grid_core::{Node, Occupied, Routes, number_of};
 use std::alloc::{AllocError, Global};
 use std::marker::Model;
@@ -40,12 +41,25 @@ impl Router {
     pub fn begin(alloc: Global, occupied: Occupied) -> Result<Self, AllocError>
         ensures { IfOk result (λ r. IsBare occupied r) }
     {
+        Self::begin_with(alloc, occupied, Vec::new(alloc))
+    }
+
+    /// As `begin`, with a penalty for each node by its number: among least paths one is preferred whose nodes have a small sum of them.
+    /// A node past their end has none. Takes two bytes more for each.
+    pub fn begin_with(
+        alloc: Global,
+        occupied: Occupied,
+        penalties: Vec<u8>,
+    ) -> Result<Self, AllocError>
+        ensures { IfOk result (λ r. IsBare occupied r) }
+    {
         let grid = occupied.grid();
         let owners = occupied.into_words();
         let count = owners.len();
         let links = zeros(alloc, count)?;
-        let frontier = unmarked(alloc, count)?;
+        let reached = unmarked(alloc, count)?;
         let log = unmarked(alloc, count)?;
+        let ties = Ties::new(alloc, penalties)?;
         let room = Room {
             grid,
             owners,
@@ -54,7 +68,12 @@ impl Router {
         Ok(Router {
             board: Board {
                 room,
-                frontier,
+                frontier: Frontier {
+                    order: reached.order,
+                    marks: reached.marks,
+                    count: reached.count,
+                    ties,
+                },
                 log,
             },
         })

@@ -3,7 +3,7 @@ ghost use Rattle.std.specs.Prelude.{◌≡◌, ℕ, ◌<◌, List, IfNone, IfSom
 ghost use Rattle.grid_core.specs.Numbers.{nodes};
 ghost use Rattle.nero_maze.specs.Search.{IsRoom, IsOwn, Kept, LeadsTo, NoneBelow, Trace};
 
-use crate::frontier::{Marked, Room, START, Span, expand, met};
+use crate::frontier::{Frontier, Room, START, Span, expand, met, settle};
 
 /// The node of the net's tree that a search met, and the cost from there to the target.
 #[derive(Clone, Copy, Drop)]
@@ -13,7 +13,7 @@ pub(crate) struct Meeting {
 }
 
 /// Goes from the target, level by level of cost, until it meets a node of the net's tree.
-pub(crate) fn search(room: &Room, net: u32, target: u32, frontier: &mut Marked) -> Option<Meeting>
+pub(crate) fn search(room: &Room, net: u32, target: u32, frontier: &mut Frontier) -> Option<Meeting>
     requires room { IsRoom room.now }
     requires marks { length frontier.old.marks.items ≡ nodes room.now.grid }
     requires order { length frontier.old.order.items ≡ nodes room.now.grid }
@@ -31,6 +31,7 @@ pub(crate) fn search(room: &Room, net: u32, target: u32, frontier: &mut Marked) 
     ensures none { IfNone result ((v : ℕ) (back : List ℕ) (c : ℕ) → IsOwn room.now.owners.items room.now.links.items net v
         → LeadsTo room.now.grid room.now.owners.items net target v back c → ⊥) }
 {
+    frontier.ties.set(target, 0);
     frontier.marks[target as usize] = START;
     frontier.order[0] = target;
     frontier.count = 1;
@@ -50,6 +51,7 @@ pub(crate) fn search(room: &Room, net: u32, target: u32, frontier: &mut Marked) 
             to: vias_end,
         };
         expand(room, net, frontier, third, 2);
+        settle(frontier, known);
         if let Some(node) = met(room, net, frontier, known) {
             return Some(Meeting { node, cost });
         }

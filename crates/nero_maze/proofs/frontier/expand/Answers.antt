@@ -21,9 +21,9 @@ loop-at-preserved c =
     let at_lt : at < to = omega arith in
     let from_le : from ≤ at = omega arith in
     let g1 = Grown-step g o t from to way (way + 2) at way ord m n c.loop-at.frontier.order.items c.loop-at.frontier.marks.items c.loop-at.frontier.count
-    v1.new.frontier.order.items v1.new.frontier.marks.items v1.new.frontier.count inv.grown v1.ensures.grown from_le at_lt (omega arith) (omega arith) in
+    v1.new.frontier.order.items v1.new.frontier.marks.items v1.new.frontier.count c.requires.to inv.grown v1.ensures.grown from_le at_lt (omega arith) (omega arith) in
     let g2 = Grown-step g o t from to way (way + 2) at (way + 1) ord m n v1.new.frontier.order.items v1.new.frontier.marks.items v1.new.frontier.count
-    v2.new.frontier.order.items v2.new.frontier.marks.items v2.new.frontier.count g1 v2.ensures.grown from_le at_lt (omega arith) (omega arith) in
+    v2.new.frontier.order.items v2.new.frontier.marks.items v2.new.frontier.count c.requires.to g1 v2.ensures.grown from_le at_lt (omega arith) (omega arith) in
     let stay1 = mark_stays g o t at (at + 1) way (way + 1) c.loop-at.frontier.order.items c.loop-at.frontier.marks.items c.loop-at.frontier.count v1.new.frontier.order.items v1.new.frontier.marks.items v1.new.frontier.count v1.ensures.grown in
     let stay2 = mark_stays g o t at (at + 1) (way + 1) (way + 1 + 1) v1.new.frontier.order.items v1.new.frontier.marks.items v1.new.frontier.count v2.new.frontier.order.items v2.new.frontier.marks.items v2.new.frontier.count v2.ensures.grown in
     let at_n : at < n = omega arith in
