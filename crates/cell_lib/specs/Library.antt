@@ -1,5 +1,5 @@
 -- The library of a folder's files, and the first cell that is none.
-use Rattle.std.specs.Prelude.{◌≡◌, ℕ, Bool, List, map}
+use Rattle.std.specs.Prelude.{◌≡◌, ℕ, Bool, false, List, map}
 use Rattle.vlsi_base.specs.declared.fault.LimitKind.TheVariants.{Width}
 use Rattle.vbe_io.specs.declared.cell_text.CellText.{CellText}
 use Rattle.vbe_io.specs.Cell.{IsCellText}

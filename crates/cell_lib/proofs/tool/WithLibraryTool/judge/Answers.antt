@@ -17,8 +17,8 @@ returns-in-Ok g c =
     let catal = catal_is (g.T.LibraryTool.files t) (g.T.LibraryTool.folder t) c.args.first.now c.catal_in.result.now c.requires.first c.catal_in.ensures in
     c.judge_with.ensures c.args.more.now (subst (λ (x : List ℕ). IsLibraryOf false x c.args.more.now c.in-Ok.library) catal c.in-Ok.ensures.ok)
 
-pub returns : goal.returns
-returns g c =
+pub returns-in-Err : goal.returns-in-Err
+returns-in-Err g c =
     let t = c.args.self.now.0.now in
     let first = c.args.first.now in
     let more = c.args.more.now in
