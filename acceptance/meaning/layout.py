@@ -102,6 +102,15 @@ def drawn(n, cells):
     return "\n".join([*lines, "EOF", ""])
 
 
+def text_faults(text, wanted):
+    """The first line that isn't as it is wanted."""
+    wanted = wanted.encode()
+    if wanted != text:
+        lines = list(zip(text.split(b"\n"), wanted.split(b"\n")))
+        at = next((k for k, pair in enumerate(lines) if pair[0] != pair[1]), len(lines))
+        yield f"line {at + 1} is {lines[at : at + 1]}"
+
+
 def report(m, held, n, cells):
     """With the lines on what registers hold."""
     placed = Placed(n, cells)

@@ -25,6 +25,7 @@ from acceptance.tools import (
     lvx,
     net_jobs,
     proof,
+    second_router,
     syf,
 )
 
@@ -43,8 +44,9 @@ def asimut_jobs(program, seed, times):
 
 
 def flow_jobs(program, seed, times):
-    """Limits and orders, and then sources."""
+    """Limits and orders, layouts over rows, and then sources."""
     yield from flow_limits.jobs(program)
+    yield from second_router.jobs(seed, times)
     yield from flow.jobs(program, seed, times)
 
 
