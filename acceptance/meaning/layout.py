@@ -1,7 +1,7 @@
 """A second drawing of netlists by private tracks, written from docs/formats/blocks.md.
 
-`drawn(n, cells)` gives the text of the layout of a netlist, `report(m, n, cells)` the report on it. A netlist is one of vst.py; cells are
-those of cellcheck.py by their names.
+`drawn(n, cells)` gives the text of the layout of a netlist, `report(m, held, n, placed)` the report on one that is placed, here or in
+rows.py. A netlist is one of vst.py; cells are those of cellcheck.py by their names.
 """
 
 import itertools
@@ -111,9 +111,8 @@ def text_faults(text, wanted):
         yield f"line {at + 1} is {lines[at : at + 1]}"
 
 
-def report(m, held, n, cells):
+def report(m, held, n, placed):
     """With the lines on what registers hold."""
-    placed = Placed(n, cells)
     lines = [f"source {m.name}", *held]
     lines += [f"size {machine_size(m)}", f"nodes {diagrams.greatest(m)}", f"cells {len(n.instances)}", f"nets {len(placed.nets)}"]
     lines += [f"delay {worst(n, own_cells(n))}", f"length {placed.length()}"]

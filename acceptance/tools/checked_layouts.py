@@ -95,11 +95,11 @@ def as_drawn(bench, title, source):
     return is_well
 
 
-def run_layout(results, program, title, source, choose):
+def run_layout(results, program, title, source, choose, words=flow.WORDS):
     files = of_cells(CELLS)
     with Room() as room:
         room.write({**files, "s.vbe": source})
-        status, printed = room.run(program, flow.WORDS)
+        status, printed = room.run(program, words)
         results.note(f"{title} to check", status == 0, shown(status, printed))
         if status != 0:
             return

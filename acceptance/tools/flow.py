@@ -1,7 +1,8 @@
 """What the second readers say of `flow`, and what no case of it has: random machines and state machines over random libraries, large and
 small sources, nets that many pins read, and the layouts that it writes, read again: extracted, compared with a second drawing, and run
 beside their sources. Of a state machine a layout is run beside the walk too: from the codes of states, and behind a reset from any
-contents. Of each netlist driven.py says which buffers and drives it has to have.
+contents. Of each netlist driven.py says which buffers and drives it has to have. What is run here has tracks; maze.py runs the same over
+rows, where a layout is read by a second router, and one in which a net is stuck by its marks.
 """
 
 import random
@@ -13,8 +14,9 @@ from acceptance.makers.random_sources import Maker, changed
 from acceptance.makers.random_sources import WORDS as SOURCE_WORDS
 from acceptance.makers.random_states import StateMaker
 from acceptance.makers.random_wide import WideMaker, with_drives
-from acceptance.meaning import diagrams, extraction, layout
+from acceptance.meaning import diagrams, extraction, layout, maze
 from acceptance.meaning.mapping import CHOICE, MOST_SIZE, machine_size
+from acceptance.meaning.rows import Rows, rows_of
 from acceptance.meaning.state_codes import code_lines
 from acceptance.meaning.state_machine import machine_of as equations_of
 from acceptance.meaning.state_walk import StateMachine
@@ -43,7 +45,8 @@ MORE = ["inv_x8", "na3_x1", "sff1_x8", "xr2_x1", "mx2_x2", "buf_x2"]
 WORDS = ["flow", "s.vbe", "-l", "lib", "-o", "r", "--tracks"]
 BOUNDS = {"--rows": (1, 256), "--metals": (4, 6), "--moves": (0, 1000000), "--fanout": (4, 1000000), "--nodes": (1, MOST_NODES)}
 OPTIONS = {"-l": "", "-o": "", "-e": "", "--seed": ""} | dict.fromkeys(BOUNDS, "")
-FANOUT = 32
+FANOUT, METALS = 32, 6
+NO_PATH = re.compile(rb"(?:flow|gen): no path: (0|[1-9][0-9]*) (\S+)\n")
 # the lines of the report that go by the optimised source: which one comes out is open
 OPEN = ("cells", "nets", "delay", "length")
 MACHINES, STATE_MACHINES, WIDE, CHUNK = 200, 30, 36, 20
@@ -59,12 +62,14 @@ class Flow(NamedTuple):
     nodes: int
     fanout: int
     style: tuple
+    has_tracks: bool
+    metals: int
 
 
 def parsed(words):
-    """The command, or None. A value doesn't begin with a hyphen, so `--tracks` is none."""
+    """The command, or None. A value doesn't begin with a hyphen, so `--tracks` is none; without it there is so far one row alone."""
     at = [k for k, word in enumerate(words) if word == "--tracks"]
-    if len(at) != 1 or words[at[0] - 1] in OPTIONS:
+    if len(at) > 1 or (at and words[at[0] - 1] in OPTIONS):
         return None
     found = command([word for word in words if word != "--tracks"], (".vbe", ".fsm"), OPTIONS)
     if not found or "-l" not in found[1] or "-o" not in found[1] or style_of(found[1]) is None:
@@ -73,8 +78,11 @@ def parsed(words):
         number = found[1].get(option, str(least))
         if not re.fullmatch("[0-9]{1,10}", number) or not least <= int(number) <= most:
             return None
-    nodes, fanout = int(found[1].get("--nodes", NODES)), int(found[1].get("--fanout", FANOUT))
-    return Flow(found[0], found[1]["-l"], found[1]["-o"], nodes, fanout, style_of(found[1]))
+    if not at and int(found[1].get("--rows", 0)) != 1:
+        return None
+    defaults = {"--nodes": NODES, "--fanout": FANOUT, "--metals": METALS}
+    nodes, fanout, metals = (int(found[1].get(word, number)) for word, number in defaults.items())
+    return Flow(found[0], found[1]["-l"], found[1]["-o"], nodes, fanout, style_of(found[1]), bool(at), metals)
 
 
 class Source(NamedTuple):
@@ -108,27 +116,30 @@ def names_read(files, folder):
         raise models.refusal(folder, str(refused)) from None
 
 
-def checked(files, folder):
+def checked(files, folder, has_tracks):
     try:
-        return cellcheck.cells(of_folder(files, folder), True)
+        return cellcheck.cells(of_folder(files, folder), has_tracks)
     except ap.Refused as refused:
         raise models.refusal(folder, str(refused)) from None
 
 
 def of_files(found, files):
-    """The status and the text without its word; (0, the lines of the report, and the most cells) where it is laid out."""
+    """The status and the text without its word; (0, the lines of the report, the most cells, and whether a net may be stuck) where it is
+    laid out."""
     names_read(files, found.folder)
     source = source_of(found, files)
     m = source.machine
     size = machine_size(m)
     if size > MOST_SIZE:
         return 9, f"flow: limit: size {size}\n"
-    checked(files, found.folder)
+    checked(files, found.folder, found.has_tracks)
     kind = first_missing(models.library(files, found.folder), bool(m.registers))
     if kind:
         return 4, f"flow: no cover: {kind}\n"
     name = diagrams.first_over(m, found.nodes)
-    return (0, (lines_of(source), most_instances(m))) if name is None else (5, f"flow: budget: {spelled(name)} {found.nodes + 1}\n")
+    if name is not None:
+        return 5, f"flow: budget: {spelled(name)} {found.nodes + 1}\n"
+    return 0, (lines_of(source), most_instances(m), not found.has_tracks)
 
 
 def most_gates(m):
@@ -151,7 +162,7 @@ def lines_of(source):
 
 def second(words, files):
     """What the second readers say of a command over files: (status, text), or (2, Ring) where any of some rings may be named. Of a layout it
-    is (0, the lines of its report, and the most cells)."""
+    is (0, the lines of its report, the most cells, and whether a net may be stuck instead)."""
     found = parsed(words)
     if found is None:
         return 1, USAGE
@@ -171,22 +182,32 @@ def second(words, files):
 def agrees(got, wanted):
     if wanted[0] != 0:
         return same_answer(got, wanted)
-    lines, (lines_wanted, most) = bytes(got[1]).decode(errors="replace").split("\n"), wanted[1]
+    lines, (lines_wanted, most, may_be_stuck) = bytes(got[1]).decode(errors="replace").split("\n"), wanted[1]
+    if got[0] == 6:
+        return may_be_stuck and stuck_in(got[1]) is not None
     told = [re.fullmatch(f"({'|'.join(OPEN)}) (0|[1-9][0-9]*)", line) for line in lines]
     cells_told = [int(found[2]) for found in told if found and found[1] == "cells"]
     known = [found[1] if found else line for found, line in zip(told, lines)]
     return got[0] == 0 and known == [*lines_wanted, ""] and cells_told[0] <= most
 
 
+def stuck_in(printed):
+    """The number of the net and the terminal that a line names, or None."""
+    found = NO_PATH.fullmatch(bytes(printed))
+    return (int(found[1]), found[2].decode()) if found else None
+
+
 # ---- the layout that is written
 
 
-def read_again(words, files, text):
-    """The netlist that a layout gives, and its rectangles."""
-    folder = parsed(words).folder
-    figure = ap.read(text)
-    flat = extraction.flat_of(figure, checked(files, folder))
-    n = extraction.extracted(figure, flat, models.library(files, folder))
+def read_again(words, files, text, is_part=False):
+    """The netlist that a layout gives, in a partial one by its marks, and its rectangles."""
+    found = parsed(words)
+    figure, cells_found, of_name = ap.read(text), checked(files, found.folder, found.has_tracks), models.library(files, found.folder)
+    flat = extraction.flat_of(figure, cells_found)
+    if is_part:
+        return maze.marked(figure, cells_found, of_name), flat
+    n = extraction.extracted(figure, flat, of_name)
     return Netlist(n.name, n.all_ports, n.instances), flat
 
 
@@ -218,24 +239,31 @@ def walk_faults(source, n, choose):
     return behaviour_faults(source.states, source.codes, n.registers, settled, choose)
 
 
-def written_faults(words, files, text):
-    """What is wrong with the layout that a command wrote, or nothing."""
+def drawing_faults(found, files, n, text, stuck):
+    """What of a layout's lines isn't as its netlist has to be drawn."""
+    cells_found = checked(files, found.folder, found.has_tracks)
+    if found.has_tracks:
+        return layout.text_faults(text, layout.drawn(n, cells_found))
+    figure = ap.read(text)
+    if stuck:
+        return maze.part_faults(text, figure, n, cells_found, found.metals, stuck)
+    return maze.whole_faults(text, figure, n, cells_found, found.metals)
+
+
+def written_faults(words, files, text, stuck=None):
+    """What is wrong with the layout that a command wrote, or nothing; with a partial one where a net is stuck before a terminal."""
     found = parsed(words)
-    source, of_name, cells_found = source_of(found, files), models.library(files, found.folder), checked(files, found.folder)
+    source, of_name = source_of(found, files), models.library(files, found.folder)
     m = source.machine
     try:
-        n, flat = read_again(words, files, text)
-    except (ap.Refused, extraction.Refused, Refused) as refused:
+        n, flat = read_again(words, files, text, stuck is not None)
+    except (ap.Refused, extraction.Refused, Refused, maze.Wrong) as refused:
         return [f"it is refused: {refused}"]
     faults = list(netlist_faults(m, of_name, n, found.fanout))
     breaches = flat.breaches()
     if breaches:
         faults.append(f"{breaches} rules are broken")
-    wanted = layout.drawn(n, cells_found).encode()
-    if wanted != text:
-        lines = list(zip(text.split(b"\n"), wanted.split(b"\n")))
-        at = next((k for k, pair in enumerate(lines) if pair[0] != pair[1]), len(lines))
-        faults.append(f"line {at + 1} is {lines[at : at + 1]}")
+    faults += drawing_faults(found, files, n, text, stuck)
     if not faults and differs_from(m, n, random.Random(len(text))):
         faults.append("it behaves otherwise")
     if not faults and source.states:
@@ -255,12 +283,20 @@ def run_laid_out(results, room, program, title, files, words=WORDS):
     """Runs flow; where it succeeds its layout is read again, and the report that it printed is the one on that layout."""
     wanted, source = second(words, files), files[words[1]]
     room.write(files)
-    got = room.run(program, words)
+    got, held_after = room.run(program, words), room.held()
     results.note(title, agrees(got, wanted), f"{words} came to {shown(*got)}, wanted {wanted} for {source[:2000]!r}")
+    if got[0] == 6 and stuck_in(got[1]):
+        check_part(results, title, words, files, held_after.pop("r_part.ap", None) or b"", got[1])
     if got[0] or wanted[0]:
-        results.note(f"{title}: files behind a refusal", room.held() == files, "a file changed")
+        results.note(f"{title}: files behind a refusal", held_after == files, "a file changed")
         return
-    check_laid_out(results, title, words, files, room.held().get("r.ap") or b"", got[1])
+    check_laid_out(results, title, words, files, held_after.get("r.ap") or b"", got[1])
+
+
+def check_part(results, title, words, files, text, printed):
+    """The layout that is left where a net is stuck: its netlist is that of the source, and no way is free for the net."""
+    faults = written_faults(words, files, text, stuck_in(printed))
+    results.note(f"{title}: the partial layout", not faults, f"{faults} of {words}, {printed!r} in {text[:3000]!r} for {files[words[1]][:2000]!r}")
 
 
 def check_laid_out(results, title, words, files, text, printed):
@@ -270,8 +306,9 @@ def check_laid_out(results, title, words, files, text, printed):
     results.note(f"{title}: the layout", not faults, f"{faults} of {words} in {text[:3000]!r} for {source[:2000]!r}")
     if not faults:
         n, _ = read_again(words, files, text)
-        found = source_of(parsed(words), files)
-        report = layout.report(found.machine, found.held, n, checked(files, parsed(words).folder))
+        found, cells_found = source_of(parsed(words), files), checked(files, parsed(words).folder, parsed(words).has_tracks)
+        placed = layout.Placed(n, cells_found) if parsed(words).has_tracks else Rows(n, cells_found, rows_of(ap.read(text)))
+        report = layout.report(found.machine, found.held, n, placed)
         results.note(f"{title}: the report", bytes(printed) == report.encode(), f"{bytes(printed)!r} is not {report!r}")
 
 

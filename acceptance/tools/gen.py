@@ -96,10 +96,12 @@ class Gen(NamedTuple):
     out: str
     nodes: int
     fanout: int
+    has_tracks: bool
+    metals: int
 
 
 def parsed(words):
-    """The command, or None. Every option stands at most once, with its value behind it."""
+    """The command, or None. Every option stands at most once, with its value behind it; without tracks there is so far one row alone."""
     given, rest = {}, list(words[1:])
     while rest:
         word = rest.pop(0)
@@ -108,14 +110,16 @@ def parsed(words):
         if word != "--tracks" and (not rest or rest[0].startswith("-")):
             return None
         given[word] = True if word == "--tracks" else rest.pop(0)
-    if any(word not in given for word in ("--size", "-l", "-o", "--tracks")):
+    if any(word not in given for word in ("--size", "-l", "-o")):
         return None
     for word, (least, most) in BOUNDS.items():
         text = given.get(word, str(least))
         if not re.fullmatch("[0-9]{1,10}", text) or not least <= int(text) <= most:
             return None
-    nodes, fanout = int(given.get("--nodes", flow.NODES)), int(given.get("--fanout", flow.FANOUT))
-    return Gen(int(given.get("--seed", 0)), int(given["--size"]), given["-l"], given["-o"], nodes, fanout)
+    if "--tracks" not in given and int(given.get("--rows", 0)) != 1:
+        return None
+    nodes, fanout, metals = int(given.get("--nodes", flow.NODES)), int(given.get("--fanout", flow.FANOUT)), int(given.get("--metals", flow.METALS))
+    return Gen(int(given.get("--seed", 0)), int(given["--size"]), given["-l"], given["-o"], nodes, fanout, "--tracks" in given, metals)
 
 
 def made(found):
@@ -124,8 +128,8 @@ def made(found):
 
 
 def as_flow(found):
-    most = ["--nodes", str(found.nodes), "--fanout", str(found.fanout)]
-    return ["flow", f"{found.out}.vbe", "-l", found.folder, "-o", found.out, "--tracks", *most]
+    most = ["--nodes", str(found.nodes), "--fanout", str(found.fanout), "--metals", str(found.metals)]
+    return ["flow", f"{found.out}.vbe", "-l", found.folder, "-o", found.out, *(["--tracks"] if found.has_tracks else ["--rows", "1"]), *most]
 
 
 def second(words, files):
@@ -178,14 +182,14 @@ def check_circuits(results, program, seed, numbers):
         check_source(results, program, choose.choice([0, 1, number, choose.randrange(2**32)]), size)
 
 
-def check_layouts(results, program, seed, numbers):
+def check_layouts(results, program, seed, numbers, routing=("--tracks",)):
     """Circuits that are laid out; the layout and the report are those of the source that was written."""
     for number in numbers:
         choose = random.Random(f"{seed} gen layout {number}")
         size, fanout = choose.choice([8, 20, 60, 150]), choose.choice([4, 4, 5, 8, 33])
         more = choose.sample(["buf_x2", "inv_x2", "inv_x4", "inv_x8", "sff1_x8"], choose.randrange(5))
         files = with_drives(choose, [*flow.FIVE, *more]) if number % 2 else of_cells([*flow.FIVE, *more])
-        words = ["gen", "--seed", str(choose.randrange(2**32)), "--size", str(size), "-l", "lib", "-o", "r", "--tracks", "--fanout", str(fanout)]
+        words = ["gen", "--seed", str(choose.randrange(2**32)), "--size", str(size), "-l", "lib", "-o", "r", *routing, "--fanout", str(fanout)]
         with Room() as room:
             room.write(files)
             got, wanted = room.run(program, words), second(words, files)
@@ -194,6 +198,9 @@ def check_layouts(results, program, seed, numbers):
         results.note(title, agrees(got, wanted), f"{words} came to {shown(*got)}, wanted {wanted}")
         if got[0] == 0 and wanted[0] == 0:
             flow.check_laid_out(results, title, as_flow(found), {**files, **made(found)}, held.get("r.ap", b""), got[1])
+        if got[0] == 6 and flow.stuck_in(got[1]):
+            flow.check_part(results, title, as_flow(found), {**files, **made(found)}, held.pop("r_part.ap", b""), got[1])
+            results.note(f"{title}: the files", held == {**files, **made(found)}, f"{sorted(held)}")
 
 
 def check_words(results, program):

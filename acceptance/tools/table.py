@@ -23,6 +23,7 @@ from acceptance.tools import (
     gen,
     loon,
     lvx,
+    maze,
     net_jobs,
     proof,
     second_router,
@@ -47,6 +48,7 @@ def flow_jobs(program, seed, times):
     """Limits and orders, layouts over rows, and then sources."""
     yield from flow_limits.jobs(program)
     yield from second_router.jobs(seed, times)
+    yield from maze.jobs(program, seed, times)
     yield from flow.jobs(program, seed, times)
 
 

@@ -1,0 +1,152 @@
+"""Layouts that `flow` and `gen` route over a row, as a second router sees them: random sources and libraries, examples, sources that get
+stuck; with a line changed, by the four tools that check what came from elsewhere.
+
+Whether the program takes such words yet is asked of it once; where it doesn't, all this is skipped with a line.
+"""
+
+import random
+import re
+
+from acceptance.makers.dense_sources import dense_source
+from acceptance.makers.random_sources import Maker
+from acceptance.makers.random_states import StateMaker
+from acceptance.makers.random_wide import WideMaker
+from acceptance.running.case_file import Case
+from acceptance.running.places import EXAMPLES
+from acceptance.running.results import Room, compare, run_in
+from acceptance.tools import checked_layouts, flow, gen
+from acceptance.tools.boog import of_cells
+
+ROUTING = ["--rows", "1"]
+MACHINES, STATE_MACHINES, WIDE, DENSE, CIRCUITS, CHECKED = 60, 10, 8, 12, 10, 3
+
+
+def routed(words, metals=None):
+    """Words of flow over one row."""
+    return [*(word for word in words if word != "--tracks"), *ROUTING, *(["--metals", str(metals)] if metals else [])]
+
+
+def takes_rows(program):
+    case = Case(flow.ROW)
+    got = run_in(case.before, program, routed(case.words[0][:6]))
+    return got[0] != 1
+
+
+def skip(results):
+    results.skip("the program doesn't route over rows yet")
+
+
+def small_enough(choose):
+    """A random source, mostly one whose layout has not too many wires for the second router."""
+    return checked_layouts.small_source(choose) if choose.random() < 0.7 else Maker(choose).source().encode()
+
+
+def check_machines(results, program, seed, number):
+    choose = random.Random(f"{seed} maze {number}")
+    files = {**flow.random_files(choose), "s.vbe": small_enough(choose)}
+    with Room() as room:
+        words = routed(flow.words_within(choose.choice([None, 4, 4, 5])), choose.choice([4, 5, 6, None]))
+        flow.run_laid_out(results, room, program, "a random source over a row", files, words)
+
+
+def check_states(results, program, seed, number):
+    choose = random.Random(f"{seed} maze states {number}")
+    files = {**flow.random_files(choose), "s.fsm": StateMaker(choose).source().encode()}
+    with Room() as room:
+        words = routed(flow.words_by(choose), choose.choice([4, 6]))
+        flow.run_laid_out(results, room, program, "a random state machine over a row", files, words)
+
+
+def check_wide(results, program, seed, number):
+    """Nets that 5 and 40 pins read."""
+    choose = random.Random(f"{seed} maze wide {number}")
+    readers, fanout = (5, 40)[number % 2], (4, 8, 33)[number // 2 % 3]
+    files = {**of_cells([*flow.FIVE, "buf_x2"]), "s.vbe": WideMaker(choose, readers).source().encode()}
+    with Room() as room:
+        flow.run_laid_out(results, room, program, f"{readers} readers with {fanout} over a row", files, routed(flow.words_within(fanout)))
+
+
+def check_dense(results, program, seed, number):
+    """Sources that mostly get stuck; of those that do, the file that is left can't be written where a folder stands in its place."""
+    choose = random.Random(f"{seed} maze dense {number}")
+    files = {**of_cells([*flow.FIVE, "xr2_x1"]), "s.vbe": dense_source(choose, choose.choice([40, 60, 90])).encode()}
+    words = routed(flow.words_within(None), 4 if number % 3 else 5)
+    with Room() as room:
+        flow.run_laid_out(results, room, program, "a dense source over a row", files, words)
+        is_stuck = (room.folder / "r_part.ap").exists()
+    if is_stuck:
+        blocked = {**files, "r_part.ap": None}
+        compare(results, "a folder as r_part.ap", run_in(blocked, program, words), 7, b"flow: file: write fault r_part.ap\n", blocked)
+        full = {**files, "r_part.ap": b"of before", "r.ap": b"of before"}
+        after = run_in(full, program, words)[2]
+        changed = after.pop("r_part.ap") != b"of before" and after == {name: text for name, text in full.items() if name != "r_part.ap"}
+        results.note("r_part.ap over one that is there, beside r.ap", changed, sorted(after))
+
+
+def check_any_stuck(results, program, seed):
+    """Of the dense sources some get stuck, so that what is said of these isn't empty."""
+    files = of_cells([*flow.FIVE, "xr2_x1"])
+    sources = (dense_source(random.Random(f"{seed} stuck {k}"), 120).encode() for k in range(3))
+    got = [run_in({**files, "s.vbe": source}, program, routed(flow.WORDS, 4))[0] for source in sources]
+    results.note("dense sources get stuck", 6 in got, got)
+
+
+def check_words(results, program):
+    """Which words choose a row, and files that can't be written."""
+    case = Case(flow.ROW)
+    row, base = ["flow", "row1.vbe", "-l", "lib", "-o", "out"], case.before
+    for more in ([], ["--rows", "2"], ["--rows", "0"], ["--metals", "4"], [*ROUTING, "--metals", "3"], [*ROUTING, "--metals", "7"]):
+        compare(results, f"flow with {more}", run_in(base, program, [*row, *more]), 1, flow.USAGE.encode(), base)
+    texts = set()
+    for more in (["--rows", "1"], ["--rows=1"], ["--rows", "0000000001", "--moves", "7"], ["--metals", "4", "--rows", "1", "--seed", "9"]):
+        status, _, files = run_in(base, program, [*row, *more])
+        texts.add((status, files.get("out.ap")))
+    results.note("one inverter over a row", len(texts) == 1 and next(iter(texts))[0] == 0, texts)
+    got, line = run_in(base, program, [*row[:-1], "nowhere/out", *ROUTING]), b"flow: file: write fault nowhere/out.ap\n"
+    compare(results, "a folder that isn't there, over a row", got, 7, line, base)
+
+
+def check_one_column(results, program):
+    """A cell whose pins are reached in one column fails the tenth cause with tracks, and is well over a row."""
+    files = of_cells(flow.FIVE)
+    figure = files["lib/na2_x1.ap"].decode()
+    narrow = re.sub(r"S 500,1000,500,\d+,", "S 500,1000,500,1500,", figure)
+    narrow = re.sub(r"S 1000,1000,1000,(\d+),", r"S 500,2500,500,\1,", narrow)
+    files = {**files, "lib/na2_x1.ap": narrow.encode(), "s.vbe": (EXAMPLES / "adder/add4.vbe").read_bytes()}
+    with Room() as room:
+        flow.run_laid_out(results, room, program, "pins in one column, with tracks", files)
+    with Room() as room:
+        flow.run_laid_out(results, room, program, "pins in one column, over a row", files, routed(flow.WORDS))
+
+
+def check_example(results, program, path):
+    with Room() as room:
+        files = {**of_cells(flow.FIVE), f"s{path.suffix}": path.read_bytes()}
+        for metals in (6, 4):
+            words = routed(["flow", f"s{path.suffix}", *flow.WORDS[2:]], metals)
+            flow.run_laid_out(results, room, program, f"the example {path.name} over a row", files, words)
+            room.folder.joinpath("r.ap").unlink(missing_ok=True)
+            room.folder.joinpath("r_part.ap").unlink(missing_ok=True)
+
+
+def check_checked(results, program, seed, number):
+    """Layouts over a row, checked by the four tools as they are and with a line changed."""
+    choose = random.Random(f"{seed} checked maze {number}")
+    checked_layouts.run_layout(results, program, "a layout over a row", checked_layouts.small_source(choose), choose, routed(flow.WORDS))
+
+
+def jobs(program, seed, times):
+    if not takes_rows(program):
+        yield skip, ()
+        return
+    for path in sorted([*EXAMPLES.glob("*/*.vbe"), *EXAMPLES.glob("*/*.fsm")]):
+        yield check_example, (program, path)
+    counts = {check_checked: CHECKED, check_dense: DENSE, check_wide: WIDE, check_machines: MACHINES, check_states: STATE_MACHINES}
+    for check, count in counts.items():
+        for number in range(count * times):
+            yield check, (program, seed, number)
+    for number in range(CIRCUITS * times):
+        yield gen.check_layouts, (program, seed, [1000 + number], ROUTING)
+    yield check_any_stuck, (program, seed)
+    yield check_one_column, (program,)
+    yield check_words, (program,)
