@@ -1,0 +1,54 @@
+#!/usr/bin/env python3
+"""Measures a layout that is routed over rows, for route.sh.
+
+Usage: bench/route.py LAYOUT.ap LIBRARY [TRACKS.ap [METALS]]
+
+Prints on one line: nodes of the grid; nets that are routed, and all nets; the length of wires in steps of 500; vias but for those on pins;
+the area beside that of TRACKS.ap, as how many times that is as large, or -. In a layout without marks all nets are routed. Straps
+and rails don't count.
+"""
+import pathlib
+import sys
+
+sys.path.append(str(pathlib.Path(__file__).resolve().parent.parent))
+from acceptance.meaning import extraction, maze  # noqa: E402
+from acceptance.meaning.rows import Rows, head_lines, rows_of  # noqa: E402
+from acceptance.readers import ap, cellcheck, models  # noqa: E402
+from acceptance.readers.vst import Netlist  # noqa: E402
+
+
+def block_of(figure, folder):
+    files = {f"lib/{name}": text for name, text in cellcheck.folder(folder).items()}
+    cells, of_name = cellcheck.cells(cellcheck.folder(folder), False), models.library(files, "lib")
+    if any(item[0] == "R" for item in figure.items):
+        return Rows(maze.marked(figure, cells, of_name), cells, rows_of(figure))
+    read = extraction.extracted(figure, extraction.flat_of(figure, cells), of_name)
+    return Rows(Netlist(read.name, read.all_ports, read.instances), cells, rows_of(figure))
+
+
+def area(figure):
+    left, foot, right, top = figure.box
+    return (right - left) * (top - foot)
+
+
+def numbers(path, folder, tracks, metals):
+    figure = ap.read(path.read_bytes())
+    block = block_of(figure, folder)
+    trees = maze.trees_of(block, figure.items[len(head_lines(block)) - 3 :], metals)
+    edges = [edge for tree in trees for edge in tree.edges]
+    steps = sum(a[0] == b[0] for a, b in edges)
+    routed = sum(all(node in tree.nodes for _, node in net.points) for net, tree in zip(block.nets, trees))
+    nodes = (block.columns + 1) * (block.top + 1) * (metals - 1)
+    saved = f"{area(ap.read(tracks.read_bytes())) / area(figure):.1f}" if tracks and tracks.exists() else "-"
+    return nodes, routed, len(block.nets), steps, len(edges) - steps, saved
+
+
+def main():
+    if len(sys.argv) not in (3, 4, 5):
+        sys.exit(__doc__)
+    path, *more = map(pathlib.Path, sys.argv[1:4:2])
+    print(*numbers(path, sys.argv[2], more[0] if more else None, int(sys.argv[4]) if len(sys.argv) > 4 else 6))
+
+
+if __name__ == "__main__":
+    main()
