@@ -15,7 +15,7 @@ netlist_of-requires c = few_ports c.args.source.now c.in-Ok.machine c.in-Ok.ensu
 
 pub product-requires : goal.product-requires
 product-requires c =
-    writable c.catal_is_named.ensures c.cell_can_be_written.ensures c.requires.0 c.requires.1.0 c.args.library.now c.requires.1.1 c.in-Ok.machine
+    writable c.catal_is_named.ensures c.cell_can_be_written.ensures c.requires.0 c.requires.1 c.args.library.now c.requires.2 c.in-Ok.machine
     c.in-Ok-netlist_of.netlist c.in-Ok-netlist_of.ensures.right c.in-Ok-netlist_of.ensures.small
     (c.machine_is_named.ensures c.args.source.now c.in-Ok.machine c.in-Ok.ensures.accepted).0
     (c.machine_can_be_written.ensures c.args.source.now c.in-Ok.machine c.in-Ok.ensures.accepted)

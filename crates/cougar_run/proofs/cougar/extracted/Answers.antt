@@ -15,8 +15,8 @@ extract-requires c = ready_figure c.what_is_read_is_a_figure.ensures c.args.sour
 pub product-requires : goal.product-requires
 product-requires c =
     let read = c.requires in
-    writable c.cell_can_be_written.ensures c.extracted_fits.ensures.fits read.0 read.1.0 c.args.library.now c.in-Ok.figure c.in-Ok-extract.netlist read.1.1
-    (c.library_law.ensures.passes false read.0 read.1.0 c.args.library.now read.1.1) c.in-Ok-extract.ensures.extracted
+    writable c.cell_can_be_written.ensures c.extracted_fits.ensures.fits read.0 read.1 c.args.library.now c.in-Ok.figure c.in-Ok-extract.netlist read.2
+    (c.library_law.ensures.passes false read.0 read.1 c.args.library.now read.2) c.in-Ok-extract.ensures.extracted
 
 pub returns-in-Err : goal.returns-in-Err
 returns-in-Err c = λ catal cells library.
