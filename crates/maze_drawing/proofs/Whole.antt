@@ -21,7 +21,7 @@ use Rattle.maze_geom.specs.Maze.{IsStep, along, up, down, IsWay, stay, step, IsA
 use Rattle.grid_core.specs.declared.grid.Node.{Node}
 use Rattle.grid_core.specs.Grid.{ahead, above, IsNext}
 use Rattle.grid_core.specs.Routes.{NetRoutes, Tree, tree_nodes}
-use Rattle.grid_core.specs.Trees.{AreWhole, IsFreeFor}
+use Rattle.grid_core.specs.Trees.{AreWhole, IsFreeFor, IsTreeOver}
 use Rattle.grid_core.specs.Grid as grid
 use Rattle.maze_drawing.specs.Wiring.{Wire, Wiring, AreBeside, AreNeighbours, HasStep, HasVia, IsOnWire, IsWiringOf, in_tree, at_terminal}
 use Rattle.maze_drawing.specs.Wiring as wiring
@@ -99,7 +99,7 @@ module _ (n : AbstractNetlist) (l : Library) (net : Numbering) (p : Placement) (
       tree_all t (λ v. IsWay (routes_of l p routes w) k (as_node t.start) (as_node v))
       (λ a b f g z. way_then (routes_of l p routes w) k (as_node t.start) (as_node a) (as_node b) z (step (goes k lt a b (subst (λ v. AreNeighbours v a b) (sym e) f) g) stay))
       (IsFreeFor (grid_over metals l p) (reserved n l net p instances) routes (net_count n) k) (net_nodes n l net p instances k)
-      (subst (λ v. grid.IsTreeOver (IsFreeFor (grid_over metals l p) (reserved n l net p instances) routes (net_count n) k) (net_nodes n l net p instances k) v) e (ok.trees k lt)) stay x h
+      (subst (λ v. IsTreeOver (IsFreeFor (grid_over metals l p) (reserved n l net p instances) routes (net_count n) k) (net_nodes n l net p instances k) v) e (ok.trees k lt)) stay x h
 
   module _ (whole : AreWhole (net_nodes n l net p instances) (net_count n) routes) where
     point_in : (k : ℕ) → k < net_count n → (x : Node) → In x (net_nodes n l net p instances k) → (t : Tree) × (routes k ≡ Some t) × In x (tree_nodes (routes k))

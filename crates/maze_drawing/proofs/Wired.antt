@@ -27,7 +27,6 @@ use Rattle.maze_drawing.specs.Points.{grid_over, terminal_nodes, port_node, port
 use Rattle.maze_drawing.specs.Law.{IsRouted}
 use Rattle.net_drawing.proofs.Block.{port_below}
 use Rattle.grid_core.proofs.Lists.{In_either}
-
 use Rattle.maze_drawing.proofs.Stands.{put_of, block_at, columns_are}
 use Rattle.maze_drawing.proofs.Nodes.{as_node, as_wire, routes_of}
 use Rattle.maze_drawing.proofs.Trees.{neighbours_in, run_in, tree_free}
