@@ -21,7 +21,7 @@ returns-in-Err-check_room c = λ catal cells library.
 
 pub driven-requires-clause-drivable : goal.driven-requires-clause-drivable
 driven-requires-clause-drivable c =
-    c.loon_law.ensures.drivable c.requires.0 c.requires.1.0 c.args.library.now c.in_ok-table.table c.in-Ok.netlist c.requires.1.1 c.in_ok-table.ensures.table
+    c.loon_law.ensures.drivable c.requires.0 c.requires.1 c.args.library.now c.in_ok-table.table c.in-Ok.netlist c.requires.2 c.in_ok-table.ensures.table
     c.in-Ok.ensures.accepted.netlist.sound (c.in-Ok.ensures.condition (lists_supplies c.args.library.now false c.in_ok-table.table c.in_ok-table.ensures.table))
 
 pub returns-in-Err-driven : goal.returns-in-Err-driven
@@ -33,8 +33,8 @@ returns-in-Err-driven c = λ catal cells library.
 pub product-requires : goal.product-requires
 product-requires c =
     let met = c.in-Ok.ensures.condition (lists_supplies c.args.library.now false c.in_ok-table.table c.in_ok-table.ensures.table) in
-    c.loon_law.ensures.writable c.requires.0 c.args.source.now c.requires.1.0 c.args.library.now c.in_ok-table.table c.in-Ok.netlist c.in-Ok-driven.driven.netlist
-    c.args.command.now.fanout c.in-Ok-driven.driven.delay c.requires.1.1 c.in_ok-table.ensures.table c.in_ok-table.ensures.sound c.in-Ok.ensures.accepted met
+    c.loon_law.ensures.writable c.requires.0 c.args.source.now c.requires.1 c.args.library.now c.in_ok-table.table c.in-Ok.netlist c.in-Ok-driven.driven.netlist
+    c.args.command.now.fanout c.in-Ok-driven.driven.delay c.requires.2 c.in_ok-table.ensures.table c.in_ok-table.ensures.sound c.in-Ok.ensures.accepted met
     c.in-Ok-driven.ensures.made c.in-Ok-driven.ensures.cells
 
 pub returns : goal.returns
