@@ -1,0 +1,6 @@
+pub mod Counting
+pub mod Exchanging
+pub mod Lengths
+pub mod Keeping
+pub mod Alike
+pub mod Numbering
