@@ -17,7 +17,7 @@ use Rattle.net_drawing.proofs.Coding.{In_get}
 use Rattle.net_drawing.proofs.Cells.{names_distinct}
 use Rattle.ocp_place.specs.Nets.{is_signal, signal_ports, port_classes, driven, is_among, net_classes, net_number}
 use Rattle.ocp_place.specs.Orderly.{IsOrderly}
-use Rattle.nero_tracks.specs.Law.{NetsAreNumbered, NetsAreCounted}
+use Rattle.nero_tracks.specs.Law.{NetsAreNumbered, NetsHaveNumbers, NetsAreCounted}
 use Rattle.nero_tracks.proofs.Among.{placed, not_placed, one_place, first_at}
 use Rattle.nero_tracks.proofs.Drivers.{signal_true, signal_so, listed, port_free, not_net, not_more, not_fewer}
 
@@ -50,28 +50,28 @@ module _ (n : AbstractNetlist) (l : Library) (orderly : IsOrderly n l) where
           let one : j ≡ k = names_distinct (signal_ports n) (AllPairs-filter (λ a b. IsTrue (comes_before a b)) is_signal n.ports orderly.order) j k u.0 name u.1 at same in
           omega (arith, less, one)
 
-pub nets_are_numbered : NetsAreNumbered
-nets_are_numbered n l orderly columns = record {
-  nets = record {
-    models = orderly.models;
-    names = orderly.names;
-    order = AllPairs-filter (λ a b. IsTrue (comes_before a b)) is_signal n.ports orderly.order;
-    port_names = λ name. (
-      λ h. let r = in_filter is_signal n.ports name h in let s = signal_so name r.1 in (r.0, s.0, s.1),
-      λ h. filter_in is_signal n.ports name h.0 (signal_true name h.1 h.2),
-    );
-    has_vdd = orderly.has_vdd;
-    has_vss = orderly.has_vss;
-    high = orderly.high;
-    low = orderly.low;
-    free = port_free n l orderly;
-    below = below n l orderly;
-    past = past n l orderly;
-    one_class = λ t u is_t is_u e. one_place (net_classes n l) (n.class t) (n.class u) (listed n l orderly t is_t) (listed n l orderly u is_u) e;
-    port_nets = port_net n l orderly;
-  };
-  columns = columns;
+pub nets_have_numbers : NetsHaveNumbers
+nets_have_numbers n l orderly = record {
+  models = orderly.models;
+  names = orderly.names;
+  order = AllPairs-filter (λ a b. IsTrue (comes_before a b)) is_signal n.ports orderly.order;
+  port_names = λ name. (
+    λ h. let r = in_filter is_signal n.ports name h in let s = signal_so name r.1 in (r.0, s.0, s.1),
+    λ h. filter_in is_signal n.ports name h.0 (signal_true name h.1 h.2),
+  );
+  has_vdd = orderly.has_vdd;
+  has_vss = orderly.has_vss;
+  high = orderly.high;
+  low = orderly.low;
+  free = port_free n l orderly;
+  below = below n l orderly;
+  past = past n l orderly;
+  one_class = λ t u is_t is_u e. one_place (net_classes n l) (n.class t) (n.class u) (listed n l orderly t is_t) (listed n l orderly u is_u) e;
+  port_nets = port_net n l orderly;
 }
+
+pub nets_are_numbered : NetsAreNumbered
+nets_are_numbered n l orderly columns = record { nets = nets_have_numbers n l orderly; columns = columns }
 
 pub nets_are_counted : NetsAreCounted
 nets_are_counted n l orderly =

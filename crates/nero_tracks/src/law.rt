@@ -1,10 +1,15 @@
 // What is true of the nets of a netlist.
 ghost use Rattle.nero_tracks.specs.Drawable.{ColumnsAreFree};
-ghost use Rattle.nero_tracks.specs.Law.{NetsAreNumbered, NetsAreCounted};
+ghost use Rattle.nero_tracks.specs.Law.{NetsAreNumbered, NetsHaveNumbers, NetsAreCounted};
 
 /// The nets of a well formed netlist are numbered as a drawing with tracks asks.
 pub fn nets_are_numbered()
     ensures { NetsAreNumbered }
+{}
+
+/// So they are as any drawing asks, whatever the columns of pins.
+pub fn nets_have_numbers()
+    ensures { NetsHaveNumbers }
 {}
 
 /// They are all its classes but those of vdd and vss.

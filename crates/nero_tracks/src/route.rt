@@ -1,5 +1,5 @@
 // The tracks of nets.
-ghost use Rattle.std.specs.Prelude.{◌≡◌, ◌++◌, ◌<◌, ◌≤◌, [], map, filter, not, IfOk, IfErr, OnOk};
+ghost use Rattle.std.specs.Prelude.{◌≡◌, ◌++◌, ◌<◌, ◌≤◌, [], map, filter, length, not, IfOk, IfErr, OnOk};
 ghost use Rattle.std.specs.List.{All};
 ghost use Rattle.ocp_place.specs.Nets.{is_among};
 ghost use Rattle.ocp_place.specs.Reaches.{site_of};
@@ -59,6 +59,18 @@ fn net_classes(
     Ok(classes)
 }
 
+/// The classes of a placement's nets by their numbers: first those of the ports without the supplies, in the order of names, then one
+/// for each other output pin, in the order of instances. Takes memory for each class.
+pub fn placed_nets(alloc: Global, placement: &Placement) -> Result<Vec<u32>, AllocError>
+    ensures classes { IfOk result (λ v. v.items
+        ≡ placement.now.ports ++ filter (λ class. not (is_among placement.now.ports class)) placement.now.drivers) }
+    ensures inside { IfOk result (λ v. All (λ c. c < length placement.now.ends) v.items) }
+{
+    let ports = placement.ports();
+    let classes = net_classes(alloc, ports, placement.drivers(), placement.count())?;
+    Ok(classes)
+}
+
 /// The points of the pins of net `k`, where so many nets have a port.
 pub fn net_pins(ends: &[Site], ports: usize, k: usize) -> &[Site]
     requires { All (λ s. (s.x ≤ 100000000000000) × (s.y ≤ 100000000000000)) ends.now }
@@ -109,7 +121,7 @@ fn tracks(alloc: Global, placement: &Placement) -> Result<Vec<Track>, AllocError
     ensures { IfOk result (λ tracks. AreTracks placement.now tracks.items) }
 {
     let ports = placement.ports();
-    let classes = net_classes(alloc, ports, placement.drivers(), placement.count())?;
+    let classes = placed_nets(alloc, placement)?;
     let mut tracks = Vec::new(alloc);
     for k in 0..classes.len() {
         let class = classes[k];

@@ -1,35 +1,31 @@
--- How long nets are, by the points of classes.
-use Rattle.std.proofs.Common.{◌≡◌, ◌≢◌, ◌⊎◌, inl, inr, ℕ, zero, suc, ◌<◌, Bool, true, false, not, ◌||◌, cond, nat_eq, List, [], ◌∷◌, ◌++◌, map, filter, Option, Some, None, refl, sym, ap, subst, ◌∙◌, arith, append-nil}
-use Rattle.std.specs.Prelude.{ℤ, pos, ◌+ℤ◌, ◌-ℤ◌, flat_map, sum, slice_index_or, AllPairs}
+-- How long nets are in one row, by the points of classes.
+use Rattle.std.proofs.Common.{◌≡◌, ◌≢◌, inl, inr, ℕ, Bool, true, false, cond, List, [], ◌∷◌, Option, Some, None, refl, sym, ap, subst, ◌∙◌, arith, append-nil}
+use Rattle.std.specs.Prelude.{ℤ, pos, ◌+ℤ◌, ◌-ℤ◌, AllPairs}
 use Rattle.std.proofs.lemmas.Int.{ints}
-use Rattle.std.proofs.lemmas.Bool.{cond-true, cond-false, eqb-true, eq-eqb}
+use Rattle.std.proofs.lemmas.Bool.{cond-true, cond-false}
 use Rattle.std.proofs.lemmas.Option.{same_Some}
 use Rattle.vlsi_base.specs.declared.name.Name.{Name}
-use Rattle.vlsi_base.specs.declared.name.Terminal.{Terminal}
-use Rattle.vlsi_base.specs.Names.{vdd, vss}
 use Rattle.vlsi_base.specs.Member.{In, here, there}
 use Rattle.machine_core.specs.Machine.{names_of}
 use Rattle.machine_core.specs.Named.{is_same_text}
 use Rattle.sym_geom.specs.declared.grid.TheConstants.{FIRST_CELL_X}
 use Rattle.sym_geom.specs.declared.rect.Transform.TheVariants.{NoSym}
-use Rattle.sym_shapes.specs.Shape.{connector_names}
 use Rattle.cell_model.specs.Cell.{Cell, pin_ports}
-use Rattle.cell_model.specs.Library.{Library, cell_of, IsUsable}
-use Rattle.cell_model.specs.Access.{Point, count_to, access_point}
-use Rattle.cell_model.proofs.Members.{In-split, In-left, In-right, In-map, In-map_back}
+use Rattle.cell_model.specs.Library.{Library, cell_of}
+use Rattle.cell_model.specs.Access.{Point, access_point}
+use Rattle.cell_model.proofs.Members.{In-split, In-left, In-right}
 use Rattle.cell_model.proofs.Texts.{text_same, text_itself, text_differs}
-use Rattle.net_meaning.specs.Netlist.{Member, AbstractNetlist, port, pin_of, IsTerminal, a_pin}
+use Rattle.net_meaning.specs.Netlist.{Member, AbstractNetlist, pin_of}
 use Rattle.ocp_rows.specs.Placement.{model_width, standing}
-use Rattle.ocp_rows.specs.Length.{shown_point, instance_point, pin_point, point_of, cell_terminals, terminals, net_points, half_box, half_perimeter}
+use Rattle.ocp_rows.specs.Length.{shown_point, instance_point, pin_point, point_of, half_perimeter}
 use Rattle.ocp_place.specs.Nets.{is_signal, signal_ports, port_classes}
 use Rattle.ocp_place.specs.Orderly.{IsOrderly}
-use Rattle.ocp_place.specs.Sites.{Site, site_at, own_sites, row_sites, pin_sites, port_sites, points_in, length_of}
+use Rattle.ocp_place.specs.Sites.{Site, site_at, own_sites, row_sites, pin_sites, port_sites, length_of}
 use Rattle.ocp_place.specs.Placed.{InRow, IsRowOf}
 use Rattle.ocp_place.specs.Law.{row_of, LengthsAreRight}
 use Rattle.ocp_place.proofs.Lists.{different_filter, different_names, first_differs, rest_differs}
-use Rattle.ocp_place.proofs.Boxes.{same_box}
-use Rattle.ocp_place.proofs.Points.{site, points_back, points_there, kept_back, kept_there, flat_back, flat_there, port_back, port_there}
-use Rattle.cell_pins.proofs.Ports.{in_filter}
+use Rattle.ocp_place.proofs.Sited.{AreSited, lengths}
+use Rattle.ocp_place.proofs.Points.{site, flat_back, flat_there, port_back, port_there}
 
 -- the point of a cell as an instance at x, y 0 shows it
 shown : (c : Cell) (x : ℤ) (model name : List ℕ) (a : Point)
@@ -145,15 +141,9 @@ module _ (n : AbstractNetlist) (l : Library) where
       }
 
 module _ (n : AbstractNetlist) (l : Library) (orderly : IsOrderly n l) where
-  abbrev sites : List Site
-  sites = port_sites 0 (port_classes n) ++ pin_sites n l
-
   -- one row is the placement's
   one_row : (owner : List ℕ) (name : Name) → point_of l (row_of n) (Some owner) name ≡ pin_point l (standing l NoSym (pos 0) (pos FIRST_CELL_X) n.instances) owner name
   one_row owner name = ap (λ is. pin_point l is owner name) (append-nil (standing l NoSym (pos 0) (pos FIRST_CELL_X) n.instances))
-
-  cell_is : (i : Member) → In i n.instances → (c : Cell) → cell_of l i.model ≡ Some c → IsUsable c
-  cell_is i h c found = let r = orderly.models i h in subst (λ (x : Cell). IsUsable x) (same_Some r.0 c (sym r.1 ∙ found)) r.2
 
   same_member : (i j : Member) → In i n.instances → In j n.instances → i.name ≡ j.name → i ≡ j
   same_member i j h g e = search n.instances i j orderly.names h g e where
@@ -164,123 +154,32 @@ module _ (n : AbstractNetlist) (l : Library) (orderly : IsOrderly n l) where
     search (one ∷ rest) v w names (there a) here f = absurd (first_differs one rest names v a (sym f))
     search (one ∷ rest) v w names (there a) (there b) f = search rest v w (rest_differs one rest names) a b f
 
-  module _ (class : ℕ) (no_vdd : class ≢ n.class (port vdd)) (no_vss : class ≢ n.class (port vss)) where
-    abbrev test : Terminal → Option Point
-    test t = cond (nat_eq (n.class t) class) (point_of l (row_of n) t.instance t.pin) None
-
-    split_test : (t : Terminal) (q : Point) → test t ≡ Some q → (n.class t ≡ class) × (point_of l (row_of n) t.instance t.pin ≡ Some q)
-    split_test t q e = by (nat_eq (n.class t) class) refl e where
-      by : (b : Bool) → nat_eq (n.class t) class ≡ b → cond b (point_of l (row_of n) t.instance t.pin) None ≡ Some q
-          → (n.class t ≡ class) × (point_of l (row_of n) t.instance t.pin ≡ Some q)
-      by true f g = (eqb-true (n.class t) class f, g)
-      by false f g = absurd (cc g)
-
-    join_test : (t : Terminal) (q : Point) → n.class t ≡ class → point_of l (row_of n) t.instance t.pin ≡ Some q → test t ≡ Some q
-    join_test t q e f = cond-true (nat_eq (n.class t) class) (point_of l (row_of n) t.instance t.pin) None (eq-eqb (n.class t) class e) ∙ f
-
-    port_in : (t : Terminal) (name : Name) (q : Point) → port name ≡ t → In name n.ports → test t ≡ Some q → In q (points_in class sites)
-    port_in t name q is i e =
-        let r = split_test (port name) q (ap test is ∙ e) in
-        points_there class sites q
-        (In-left (class, q) (port_sites 0 (port_classes n)) (pin_sites n l)
-        (subst (λ (k : ℕ). In (k, q) (port_sites 0 (port_classes n))) r.0 (port_back n 0 (signal_ports n) name q r.1)))
-
-    pin_in : (t : Terminal) (i : Member) (q : Point) (o : Option Cell) → cell_of l i.model ≡ o → In i n.instances → In t (cell_terminals o i.name) → test t ≡ Some q → In q (points_in class sites)
-    pin_in t i q None found h g e = elim g [ ]
-    pin_in t i q (Some c) found h g e =
-        let r = In-map_back (pin_of i.name) t (connector_names c.items) g in
-        let name = r.0 in
-        let s = split_test (pin_of i.name name) q (ap test r.2 ∙ e) in
-        let terminal : IsTerminal n l (pin_of i.name name) = a_pin i c h found r.1 in
-        let signal : In name (names_of (pin_ports c)) = only_signal name (((cell_is i h c found).connectors name).0 r.1)
-        (λ v. no_vdd (sym s.0 ∙ orderly.high (pin_of i.name name) terminal v)) (λ v. no_vss (sym s.0 ∙ orderly.low (pin_of i.name name) terminal v)) in
-        let has : HasPin l n.instances i.name name = λ j d a named other.
+  sited : AreSited n l (row_of n) (port_sites 0 (port_classes n)) (pin_sites n l)
+  sited = record {
+    port_back = λ name q e. port_back n 0 (signal_ports n) name q e;
+    port_there = λ class q i. port_there n 0 class (signal_ports n) q (different_filter is_signal n.ports (different_names n.ports orderly.order)) i;
+    pin_back = λ i c pin q h found signal e.
+        let has : HasPin l n.instances i.name pin = λ j d a named other.
         let same : j ≡ i = same_member j i a h named in
         let cells : c ≡ d = same_Some c d (sym found ∙ sym (ap (λ (x : Member). cell_of l x.model) same) ∙ other) in
-        subst (λ (x : Cell). In name (names_of (pin_ports x))) cells signal in
-        points_there class sites q
-        (In-right (class, q) (port_sites 0 (port_classes n)) (pin_sites n l)
-        (subst (λ (k : ℕ). In (k, q) (pin_sites n l)) s.0 (pin_back n l (pos FIRST_CELL_X) n.instances i.name name q has (sym (one_row i.name name) ∙ s.1))))
-      where
-        only_signal : {A : Type 0} (name : Name) → (name ≡ vdd) ⊎ ((name ≡ vss) ⊎ A) → name ≢ vdd → name ≢ vss → A
-        only_signal name (inl v) a b = absurd (a v)
-        only_signal name (inr (inl v)) a b = absurd (b v)
-        only_signal name (inr (inr x)) a b = x
+        subst (λ (x : Cell). In pin (names_of (pin_ports x))) cells signal in
+        pin_back n l (pos FIRST_CELL_X) n.instances i.name pin q has (sym (one_row i.name pin) ∙ e);
+    pin_there = λ class q i.
+        let s = shown_there n l (pos FIRST_CELL_X) n.instances class q orderly.names i in
+        record {
+          owner = s.owner;
+          cell = s.cell;
+          pin = s.pin;
+          listed = s.listed;
+          found = s.found;
+          is_pin = s.is_pin;
+          class_is = s.class_is;
+          at = one_row s.owner.name s.pin ∙ s.at;
+        };
+  }
 
-    points_in_sites : (q : Point) → In q (net_points n l (row_of n) class) → In q (points_in class sites)
-    points_in_sites q i =
-        let r = kept_back test (terminals n l) q i in
-        elim (In-split r.0 (map port n.ports) (flat_map (λ j. cell_terminals (cell_of l j.model) j.name) n.instances) r.1) [
-          | inl a ↦ let s = In-map_back port r.0 n.ports a in port_in r.0 s.0 q s.2 s.1 r.2
-          | inr b ↦
-              let s = flat_back (λ j. cell_terminals (cell_of l j.model) j.name) n.instances r.0 b in
-              pin_in r.0 s.0 q (cell_of l s.0.model) refl s.1 s.2 r.2
-        ]
-
-    sites_in_points : (q : Point) → In q (points_in class sites) → In q (net_points n l (row_of n) class)
-    sites_in_points q i = elim (In-split (class, q) (port_sites 0 (port_classes n)) (pin_sites n l) (points_back class sites q i)) [
-      | inl a ↦
-          let r = port_there n 0 class (signal_ports n) q (different_filter is_signal n.ports (different_names n.ports orderly.order)) a in
-          let listed : In r.0 n.ports = (in_filter is_signal n.ports r.0 r.1).0 in
-          kept_there test (terminals n l) (port r.0) q
-          (In-left (port r.0) (map port n.ports) (flat_map (λ j. cell_terminals (cell_of l j.model) j.name) n.instances) (In-map port r.0 n.ports listed))
-          (join_test (port r.0) q r.2 r.3)
-      | inr b ↦
-          let s = shown_there n l (pos FIRST_CELL_X) n.instances class q orderly.names b in
-          let connector : In s.pin (connector_names s.cell.items) = ((cell_is s.owner s.listed s.cell s.found).connectors s.pin).1 (inr (inr s.is_pin)) in
-          let own : In (pin_of s.owner.name s.pin) (cell_terminals (cell_of l s.owner.model) s.owner.name) =
-          subst (λ (o : Option Cell). In (pin_of s.owner.name s.pin) (cell_terminals o s.owner.name)) (sym s.found) (In-map (pin_of s.owner.name) s.pin (connector_names s.cell.items) connector) in
-          kept_there test (terminals n l) (pin_of s.owner.name s.pin) q
-          (In-right (pin_of s.owner.name s.pin) (map port n.ports) (flat_map (λ j. cell_terminals (cell_of l j.model) j.name) n.instances)
-          (flat_there (λ j. cell_terminals (cell_of l j.model) j.name) n.instances s.owner (pin_of s.owner.name s.pin) s.listed own))
-          (join_test (pin_of s.owner.name s.pin) q s.class_is (one_row s.owner.name s.pin ∙ s.at))
-    ]
-
-    pub same_boxes : half_box (points_in class sites) ≡ half_box (net_points n l (row_of n) class)
-    same_boxes = same_box (points_in class sites) (net_points n l (row_of n) class) sites_in_points points_in_sites
-
-  -- ---- all classes
-
-  abbrev is_other : ℕ → Bool
-  is_other class = not (nat_eq class (n.class (port vdd)) || nat_eq class (n.class (port vss)))
-
-  others : (class : ℕ) → is_other class ≡ true → (class ≢ n.class (port vdd)) × (class ≢ n.class (port vss))
-  others class e = by (nat_eq class (n.class (port vdd))) refl (nat_eq class (n.class (port vss))) refl e where
-    by : (a : Bool) → nat_eq class (n.class (port vdd)) ≡ a → (b : Bool) → nat_eq class (n.class (port vss)) ≡ b → not (a || b) ≡ true
-        → (class ≢ n.class (port vdd)) × (class ≢ n.class (port vss))
-    by true f b g h = absurd (cc h)
-    by false f true g h = absurd (cc h)
-    by false f false g h = (
-      λ v. let t : true ≡ false = sym (eq-eqb class (n.class (port vdd)) v) ∙ f in cc t,
-      λ v. let t : true ≡ false = sym (eq-eqb class (n.class (port vss)) v) ∙ g in cc t,
-    )
-
-  counted_low : (k class : ℕ) → In class (count_to k) → class < k
-  counted_low zero class i = elim i [ ]
-  counted_low (suc k) class i = elim (In-split class (count_to k) (k ∷ []) i) [
-    | inl a ↦ let h = counted_low k class a in omega (arith, h)
-    | inr b ↦ last class b
-  ] where
-    last : (x : ℕ) → In x (k ∷ []) → x < suc k
-    last x here = omega arith
-    last x (there j) = elim j [ ]
-
-  same_sum : (f g : ℕ → ℕ) (ks : List ℕ) → ((k : ℕ) → In k ks → f k ≡ g k) → sum (map f ks) ≡ sum (map g ks)
-  same_sum f g ks each = ap sum (same_map ks each) where
-    same_map : (ks : List ℕ) → ((k : ℕ) → In k ks → f k ≡ g k) → map f ks ≡ map g ks
-    same_map [] each = refl
-    same_map (k ∷ ks) each = ap (λ (x : ℕ). x ∷ map f ks) (each k here) ∙ ap (λ (xs : List ℕ). g k ∷ xs) (same_map ks (λ j i. each j (there i)))
-
-  pub lengths : (p : InRow) → IsRowOf n l p → length_of p.high p.low p.ends ≡ half_perimeter n l (row_of n)
-  lengths p row =
-      ap (λ (h : ℕ). length_of h p.low p.ends) row.high
-      ∙ ap (λ (h : ℕ). length_of (n.class (port vdd)) h p.ends) row.low
-      ∙ ap (λ (k : ℕ). sum (map (λ class. half_box (slice_index_or p.ends class [])) (filter is_other (count_to k)))) row.many
-      ∙ same_sum (λ class. half_box (slice_index_or p.ends class [])) (λ class. half_box (net_points n l (row_of n) class)) (filter is_other (count_to n.classes))
-      (λ class i.
-      let r = in_filter is_other (count_to n.classes) class i in
-      let free = others class r.1 in
-      ap half_box (row.ends class [] (counted_low n.classes class r.0)) ∙ same_boxes class free.0 free.1)
+  lengths_of : (p : InRow) → IsRowOf n l p → length_of p.high p.low p.ends ≡ half_perimeter n l (row_of n)
+  lengths_of p row = lengths n l orderly (row_of n) (port_sites 0 (port_classes n)) (pin_sites n l) sited p.high p.low p.ends row.high row.low row.many row.ends
 
 pub lengths_are_right : LengthsAreRight
-lengths_are_right n l p orderly row = lengths n l orderly p row
+lengths_are_right n l p orderly row = lengths_of n l orderly p row

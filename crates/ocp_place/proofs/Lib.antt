@@ -8,6 +8,7 @@ pub mod Seen
 pub mod RightOnes
 pub mod Boxes
 pub mod Points
+pub mod Sited
 pub mod Lengths
 pub mod RowSteps
 pub mod Groups
@@ -19,3 +20,11 @@ pub mod Laid
 pub mod Bounds
 pub mod Sounds
 pub mod Sums
+pub mod Turned
+pub mod Put
+pub mod RowPlaced
+pub mod RowSited
+pub mod RowSounds
+pub mod Widths
+pub mod Standing
+pub mod First

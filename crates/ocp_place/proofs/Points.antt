@@ -10,10 +10,11 @@ use Rattle.sym_geom.specs.declared.grid.TheConstants.{FIRST_CELL_X}
 use Rattle.cell_model.specs.Access.{Point}
 use Rattle.cell_model.proofs.Members.{In-split, In-left, In-right}
 use Rattle.net_meaning.specs.Netlist.{AbstractNetlist, port}
-use Rattle.ocp_rows.specs.Placement.{track_y}
-use Rattle.ocp_rows.specs.Length.{port_point}
+use Rattle.ocp_rows.specs.Placement.{track_y, port_row, column_x, row_y}
+use Rattle.ocp_rows.specs.Length.{port_point, grid_point}
 use Rattle.net_drawing.proofs.Coding.{same_name_true, same_name_itself, same_name_false}
 use Rattle.ocp_place.specs.Sites.{Site, port_sites, points_in}
+use Rattle.ocp_place.specs.Stood.{grid_sites}
 
 -- ---- lists
 
@@ -81,41 +82,101 @@ flat_there f (z ∷ xs) x y (there i) j = In-right y (f z) (flat_map f xs) (flat
 
 -- ---- ports
 
--- the point of a port is that of a site of its class
+-- the point of a port, from number k on, where the port of a number has this point; and the sites of such ports by their classes
+abbrev ranked_point : (ℕ → Point) → ℕ → List Name → Name → Option Point
+ranked_point at k [] name = None
+ranked_point at k (one ∷ rest) name = cond (is_same_name one name) (Some (at k)) (ranked_point at (suc k) rest name)
+
+abbrev ranked_sites : (ℕ → Point) → ℕ → List ℕ → List Site
+ranked_sites at k [] = []
+ranked_sites at k (class ∷ rest) = (class, at k) ∷ ranked_sites at (suc k) rest
+
+module _ (n : AbstractNetlist) (at : ℕ → Point) where
+  -- the point of a port is that of a site of its class
+  ranked_back : (k : ℕ) (names : List Name) (name : Name) (q : Point) → ranked_point at k names name ≡ Some q
+      → In (n.class (port name), q) (ranked_sites at k (map (λ x. n.class (port x)) names))
+  ranked_back k [] name q e = absurd (cc e)
+  ranked_back k (one ∷ rest) name q e = by (is_same_name one name) refl e (ranked_back (suc k) rest name q) where
+    by : (b : Bool) → is_same_name one name ≡ b → cond b (Some (at k)) (ranked_point at (suc k) rest name) ≡ Some q
+        → (ranked_point at (suc k) rest name ≡ Some q → In (n.class (port name), q) (ranked_sites at (suc k) (map (λ x. n.class (port x)) rest)))
+        → In (n.class (port name), q) (ranked_sites at k (map (λ x. n.class (port x)) (one ∷ rest)))
+    by true f g next =
+        let named : one ≡ name = same_name_true one name f in
+        let is : at k ≡ q = same_Some (at k) q g in
+        subst (λ (x : Name). In (n.class (port x), q) (ranked_sites at k (map (λ y. n.class (port y)) (one ∷ rest)))) named
+        (subst (λ (r : Point). In (n.class (port one), r) (ranked_sites at k (map (λ y. n.class (port y)) (one ∷ rest)))) is here)
+    by false f g next = there (next g)
+
+  -- and the other way round, where the names differ
+  ranked_there : (k class : ℕ) (names : List Name) (q : Point) → AllDifferent names → In (class, q) (ranked_sites at k (map (λ x. n.class (port x)) names))
+      → (name : Name) × In name names × (n.class (port name) ≡ class) × (ranked_point at k names name ≡ Some q)
+  ranked_there k class [] q d i = elim i [ ]
+  ranked_there k class (one ∷ rest) q d i = by (heads (site class q) i) (ranked_there (suc k) class rest q d.1) where
+    heads : (s : Site) → In s (ranked_sites at k (map (λ x. n.class (port x)) (one ∷ rest)))
+        → (s ≡ site (n.class (port one)) (at k)) ⊎ In s (ranked_sites at (suc k) (map (λ x. n.class (port x)) rest))
+    heads s here = inl refl
+    heads s (there j) = inr j
+
+    by : (site class q ≡ site (n.class (port one)) (at k)) ⊎ In (class, q) (ranked_sites at (suc k) (map (λ x. n.class (port x)) rest))
+        → (In (class, q) (ranked_sites at (suc k) (map (λ x. n.class (port x)) rest)) → (name : Name) × In name rest × (n.class (port name) ≡ class) × (ranked_point at (suc k) rest name ≡ Some q))
+        → (name : Name) × In name (one ∷ rest) × (n.class (port name) ≡ class) × (ranked_point at k (one ∷ rest) name ≡ Some q)
+    by (inl e) next = (
+      one,
+      here,
+      sym (ap (λ (s : Site). s.0) e),
+      cond-true (is_same_name one one) (Some (at k)) (ranked_point at (suc k) rest one) (same_name_itself one) ∙ ap (λ (s : Site). Some s.1) (sym e),
+    )
+    by (inr j) next =
+        let r = next j in
+        let differ : is_same_name one r.0 ≡ false = same_name_false one r.0 (λ e. d.0 (subst (λ (x : Name). In x rest) (sym e) r.1)) in
+        (r.0, there r.1, r.2, cond-false (is_same_name one r.0) (Some (at k)) (ranked_point at (suc k) rest r.0) differ ∙ r.3)
+
+-- at the left ends of tracks
+abbrev track_end : ℕ → Point
+track_end k = (pos FIRST_CELL_X, track_y k)
+
+track_points : (k : ℕ) (names : List Name) (name : Name) → port_point k names name ≡ ranked_point track_end k names name
+track_points k [] name = refl
+track_points k (one ∷ rest) name = ap (λ (o : Option Point). cond (is_same_name one name) (Some (track_end k)) o) (track_points (suc k) rest name)
+
+track_sites : (k : ℕ) (classes : List ℕ) → port_sites k classes ≡ ranked_sites track_end k classes
+track_sites k [] = refl
+track_sites k (c ∷ rest) = ap (λ (ss : List Site). site c (track_end k) ∷ ss) (track_sites (suc k) rest)
+
 pub port_back : (n : AbstractNetlist) (k : ℕ) (names : List Name) (name : Name) (q : Point) → port_point k names name ≡ Some q
     → In (n.class (port name), q) (port_sites k (map (λ x. n.class (port x)) names))
-port_back n k [] name q e = absurd (cc e)
-port_back n k (one ∷ rest) name q e = by (is_same_name one name) refl e (port_back n (suc k) rest name q) where
-  by : (b : Bool) → is_same_name one name ≡ b → cond b (Some (pos FIRST_CELL_X, track_y k)) (port_point (suc k) rest name) ≡ Some q
-      → (port_point (suc k) rest name ≡ Some q → In (n.class (port name), q) (port_sites (suc k) (map (λ x. n.class (port x)) rest)))
-      → In (n.class (port name), q) (port_sites k (map (λ x. n.class (port x)) (one ∷ rest)))
-  by true f g next =
-      let named : one ≡ name = same_name_true one name f in
-      let at : (pos FIRST_CELL_X, track_y k) ≡ q = same_Some (pos FIRST_CELL_X, track_y k) q g in
-      subst (λ (x : Name). In (n.class (port x), q) (port_sites k (map (λ y. n.class (port y)) (one ∷ rest)))) named
-      (subst (λ (r : Point). In (n.class (port one), r) (port_sites k (map (λ y. n.class (port y)) (one ∷ rest)))) at here)
-  by false f g next = there (next g)
+port_back n k names name q e =
+    subst (λ (ss : List Site). In (n.class (port name), q) ss) (sym (track_sites k (map (λ x. n.class (port x)) names)))
+    (ranked_back n track_end k names name q (sym (track_points k names name) ∙ e))
 
--- and the other way round, where the names differ
 pub port_there : (n : AbstractNetlist) (k class : ℕ) (names : List Name) (q : Point) → AllDifferent names → In (class, q) (port_sites k (map (λ x. n.class (port x)) names))
     → (name : Name) × In name names × (n.class (port name) ≡ class) × (port_point k names name ≡ Some q)
-port_there n k class [] q d i = elim i [ ]
-port_there n k class (one ∷ rest) q d i = by (heads (site class q) i) (port_there n (suc k) class rest q d.1) where
-  heads : (s : Site) → In s (port_sites k (map (λ x. n.class (port x)) (one ∷ rest)))
-      → (s ≡ site (n.class (port one)) (pos FIRST_CELL_X, track_y k)) ⊎ In s (port_sites (suc k) (map (λ x. n.class (port x)) rest))
-  heads s here = inl refl
-  heads s (there j) = inr j
+port_there n k class names q d i =
+    let r = ranked_there n track_end k class names q d (subst (λ (ss : List Site). In (class, q) ss) (track_sites k (map (λ x. n.class (port x)) names)) i) in
+    (r.0, r.1, r.2, track_points k names r.0 ∙ r.3)
 
-  by : (site class q ≡ site (n.class (port one)) (pos FIRST_CELL_X, track_y k)) ⊎ In (class, q) (port_sites (suc k) (map (λ x. n.class (port x)) rest))
-      → (In (class, q) (port_sites (suc k) (map (λ x. n.class (port x)) rest)) → (name : Name) × In name rest × (n.class (port name) ≡ class) × (port_point (suc k) rest name ≡ Some q))
-      → (name : Name) × In name (one ∷ rest) × (n.class (port name) ≡ class) × (port_point k (one ∷ rest) name ≡ Some q)
-  by (inl e) next = (
-    one,
-    here,
-    sym (ap (λ (s : Site). s.0) e),
-    cond-true (is_same_name one one) (Some (pos FIRST_CELL_X, track_y k)) (port_point (suc k) rest one) (same_name_itself one) ∙ ap (λ (s : Site). Some s.1) (sym e),
-  )
-  by (inr j) next =
-      let r = next j in
-      let differ : is_same_name one r.0 ≡ false = same_name_false one r.0 (λ e. d.0 (subst (λ (x : Name). In x rest) (sym e) r.1)) in
-      (r.0, there r.1, r.2, cond-false (is_same_name one r.0) (Some (pos FIRST_CELL_X, track_y k)) (port_point (suc k) rest r.0) differ ∙ r.3)
+-- in columns above rows
+abbrev column_top : (ℕ → ℕ) → ℕ → ℕ → Point
+column_top column rows k = (column_x (column k), row_y (port_row rows))
+
+column_points : (column : ℕ → ℕ) (rows k : ℕ) (names : List Name) (name : Name) → grid_point column rows k names name ≡ ranked_point (column_top column rows) k names name
+column_points column rows k [] name = refl
+column_points column rows k (one ∷ rest) name =
+    ap (λ (o : Option Point). cond (is_same_name one name) (Some (column_top column rows k)) o) (column_points column rows (suc k) rest name)
+
+column_sites : (column : ℕ → ℕ) (rows k : ℕ) (classes : List ℕ) → grid_sites column rows k classes ≡ ranked_sites (column_top column rows) k classes
+column_sites column rows k [] = refl
+column_sites column rows k (c ∷ rest) = ap (λ (ss : List Site). site c (column_top column rows k) ∷ ss) (column_sites column rows (suc k) rest)
+
+pub grid_back : (n : AbstractNetlist) (column : ℕ → ℕ) (rows k : ℕ) (names : List Name) (name : Name) (q : Point) → grid_point column rows k names name ≡ Some q
+    → In (n.class (port name), q) (grid_sites column rows k (map (λ x. n.class (port x)) names))
+grid_back n column rows k names name q e =
+    subst (λ (ss : List Site). In (n.class (port name), q) ss) (sym (column_sites column rows k (map (λ x. n.class (port x)) names)))
+    (ranked_back n (column_top column rows) k names name q (sym (column_points column rows k names name) ∙ e))
+
+pub grid_there : (n : AbstractNetlist) (column : ℕ → ℕ) (rows k class : ℕ) (names : List Name) (q : Point) → AllDifferent names
+    → In (class, q) (grid_sites column rows k (map (λ x. n.class (port x)) names))
+    → (name : Name) × In name names × (n.class (port name) ≡ class) × (grid_point column rows k names name ≡ Some q)
+grid_there n column rows k class names q d i =
+    let r = ranked_there n (column_top column rows) k class names q d (subst (λ (ss : List Site). In (class, q) ss) (column_sites column rows k (map (λ x. n.class (port x)) names)) i) in
+    (r.0, r.1, r.2, column_points column rows k names r.0 ∙ r.3)

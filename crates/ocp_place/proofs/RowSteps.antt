@@ -1,5 +1,5 @@
 -- A row, instance by instance.
-use Rattle.std.proofs.Common.{◌≡◌, ℕ, ◌+◌, Bool, true, false, not, cond, List, [], ◌∷◌, ◌++◌, map, filter, length, get_or, take, drop, Some, refl, sym, ap, subst, ◌∙◌, arith, append-nil, append_assoc}
+use Rattle.std.proofs.Common.{◌≡◌, ℕ, ◌+◌, Bool, true, false, not, cond, List, [], ◌∷◌, ◌++◌, map, filter, length, get_or, take, drop, Some, ◌*◌, Option, None, refl, sym, ap, ap₂, subst, ◌∙◌, arith, append-nil, append_assoc}
 use Rattle.std.specs.Prelude.{ℤ, pos, ◌+ℤ◌, flat_map, slice_index, option_map}
 use Rattle.std.proofs.lemmas.Int.{ints}
 use Rattle.std.proofs.lemmas.List.{get_or-take, get_or-drop}
@@ -24,7 +24,9 @@ use Rattle.ocp_rows.specs.Placement.{model_width, row_width}
 use Rattle.ocp_place.specs.declared.reach.PinReach.{PinReach}
 use Rattle.ocp_place.specs.Nets.{driven_by, driven}
 use Rattle.ocp_place.specs.Sites.{Site, site_at, own_sites, row_sites, row_starts}
-use Rattle.ocp_place.specs.Reaches.{ArePinReaches, no_pins, one_pin, reached_sites, reached_drivers}
+use Rattle.ocp_place.specs.Reaches.{ArePinReaches, no_pins, one_pin, reached_sites, spot_point, spot_sites, reached_drivers}
+use Rattle.ocp_place.specs.Stood.{point_site}
+use Rattle.cell_checks.specs.declared.points.GridPoint.{GridPoint}
 
 -- ---- one more instance
 
@@ -85,6 +87,17 @@ reached_are n x owner c classes has (p ∷ ports) (r ∷ pins) (one_pin is rest)
     ap (λ (k : ℕ). site_at k x (option_map point_of r.point) ++ reached_sites x classes pins) (has r.place p.name is.place)
     ∙ ap (λ o. site_at (n.class (pin_of owner p.name)) x o ++ reached_sites x classes pins) is.point
     ∙ ap (λ (ss : List Site). site_at (n.class (pin_of owner p.name)) x (access_point c p.name) ++ ss) (reached_are n x owner c classes has ports pins rest)
+
+-- a pin of row 0 lies as its cell shows it
+pub level_sites : (x : ℕ) (classes : List ℕ) (pins : List PinReach) → spot_sites x 0 classes pins ≡ reached_sites (pos x) classes pins
+level_sites x classes [] = refl
+level_sites x classes (r ∷ pins) = ap₂ (λ (a b : List Site). a ++ b) (level (slice_index classes r.place) r.point) (level_sites x classes pins) where
+  level : (class : ℕ) (o : Option GridPoint) → point_site class (spot_point x 0 o) ≡ site_at class (pos x) (option_map point_of o)
+  level class None = refl
+  level class (Some q) =
+      let a : pos (x + q.x) ≡ pos q.x +ℤ pos x = omega (arith, ints) in
+      let b : 5000 * 0 + q.y ≡ q.y = omega arith in
+      ap₂ (λ (z : ℤ) (y : ℕ). (class, (z, pos y)) ∷ []) a b
 
 pub drivers_are : (n : AbstractNetlist) (owner : List ℕ) (c : Cell) (classes : List ℕ) → HasClasses n owner c classes → (ports : List Port) (pins : List PinReach) → ArePinReaches c ports pins
     → reached_drivers classes pins ≡ map (λ pin. n.class (pin_of owner pin)) (names_of (filter (λ p. not (is_input p.dir)) ports))

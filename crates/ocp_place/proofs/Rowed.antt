@@ -1,5 +1,5 @@
 -- The placement of a netlist's row.
-use Rattle.std.proofs.Common.{◌≡◌, false, ℕ, ◌<◌, ◌≤◌, List, ◌++◌, map, filter, length, get_or, sym, ap, subst, ◌∙◌, arith, length-append}
+use Rattle.std.proofs.Common.{◌≡◌, true, false, ℕ, ◌<◌, ◌≤◌, List, ◌++◌, map, filter, length, get_or, sym, ap, subst, ◌∙◌, arith, length-append}
 use Rattle.std.specs.Prelude.{flat_map}
 use Rattle.std.specs.Global.{Vec}
 use Rattle.std.proofs.lemmas.List.{length-map}
@@ -53,39 +53,53 @@ module _ (l : Library) (n : InMemory) (passed : HasPassed false l) (given : IsDr
       let f : Name → ℕ = λ name. k.class (port name) in
       is.signals ∙ signals_are f n.ports n.classes ports_many (class_of k seen) ∙ ap (λ (names : List Name). map f (filter is_signal names)) (sym (seen_ports n k seen))
 
+  has : (k : AbstractNetlist) → IsSeenAs n k → (name : Name) → In name k.ports → In name (map (λ p. p.name) n.ports)
+  has k seen name i = subst (λ (names : List Name). In name names) (seen_ports n k seen) i
+
+  -- and those of the supplies
+  pub high_of : (split : PortClasses) → IsSplit n.ports n.classes split → (k : AbstractNetlist) → IsSeenAs n k → split.high ≡ k.class (port vdd)
+  high_of split is k seen =
+      is.high ∙ named_is (λ name. k.class (port name)) vdd 0 n.ports n.classes ports_many (different_names (map (λ p. p.name) n.ports) given.sound.ports)
+      (has k seen vdd (orderly l n passed given k seen).has_vdd) (class_of k seen)
+
+  pub low_of : (split : PortClasses) → IsSplit n.ports n.classes split → (k : AbstractNetlist) → IsSeenAs n k → split.low ≡ k.class (port vss)
+  low_of split is k seen =
+      is.low ∙ named_is (λ name. k.class (port name)) vss 0 n.ports n.classes ports_many (different_names (map (λ p. p.name) n.ports) given.sound.ports)
+      (has k seen vss (orderly l n passed given k seen).has_vss) (class_of k seen)
+
+  -- the points of each class, where all points are those of these sites
+  pub ends_of : (all : List Placed) (sites : List Site) → map site_of all ≡ sites → (ends : List (Vec Placed)) → length ends ≡ n.count → AreEnds all ends
+      → (k : AbstractNetlist) → IsSeenAs n k → (class : ℕ) (d : List Point) → class < k.classes → get_or (map points_of ends) class d ≡ points_in class sites
+  ends_of all sites all_is ends many groups k seen class d low =
+      let under : class < length ends = let e = ap (λ (x : AbstractNetlist). x.classes) seen.is in omega (arith, low, e, many) in
+      let x = at_place ends class under in
+      get_or_from_slice_get (map points_of ends) class (points_of x.0) d (mapped points_of ends class x.0 x.1)
+      ∙ ap points_of (sym (get_or_from_slice_get ends class x.0 x.0 x.1))
+      ∙ ap (map (λ s. (site_of s).1)) (groups.each class x.0 under)
+      ∙ group_points class all
+      ∙ ap (points_in class) all_is
+
+  pub ends_many : (ends : List (Vec Placed)) → length ends ≡ n.count → (k : AbstractNetlist) → IsSeenAs n k → length (map points_of ends) ≡ k.classes
+  ends_many ends many k seen = length-map ends points_of ∙ many ∙ sym (ap (λ (x : AbstractNetlist). x.classes) seen.is)
+
 -- what placing comes to: the classes of ports, the row, and all points by their classes
 pub placed_row : (l : Library) (n : InMemory) → HasPassed false l → IsDrawableIn l n → (split : PortClasses) → IsSplit n.ports n.classes split
     → (row : Row) → ((k : AbstractNetlist) → IsSeenAs n k → IsRow k l row) → (all : List Placed) → map site_of all ≡ port_sites 0 split.signals.items ++ map site_of row.sites.items
-    → (ends : List (Vec Placed)) → length ends ≡ n.count → AreEnds all ends
-    → IsPlacementOf l n (in_row split.signals.items row.drivers.items ends row.starts.items row.width split.high split.low)
-placed_row l n passed given split is row are all all_is ends many groups = record { passed = passed; drawable = given; row = seen_row } where
-  seen_row : (k : AbstractNetlist) → IsSeenAs n k → IsRowOf k l (in_row split.signals.items row.drivers.items ends row.starts.items row.width split.high split.low)
+    → (ends : List (Vec Placed)) → length ends ≡ n.count → AreEnds all ends → (rows : List (Vec ℕ)) (numbers : List ℕ)
+    → IsPlacementOf l n (in_row split.signals.items row.drivers.items ends row.starts.items row.width split.high split.low true rows numbers)
+placed_row l n passed given split is row are all all_is ends many groups rows numbers = record { passed = passed; drawable = given; row = seen_row } where
+  seen_row : (k : AbstractNetlist) → IsSeenAs n k → IsRowOf k l (in_row split.signals.items row.drivers.items ends row.starts.items row.width split.high split.low true rows numbers)
   seen_row k seen =
       let r = are k seen in
-      let f : Name → ℕ = λ name. k.class (port name) in
       let signals = signals_of l n passed given split is k seen in
-      let o = orderly l n passed given k seen in
+      let sites = all_is ∙ ap (λ (ss : List Site). port_sites 0 split.signals.items ++ ss) r.sites ∙ ap (λ (cs : List ℕ). port_sites 0 cs ++ pin_sites k l) signals in
       record {
         ports = signals;
         drivers = r.drivers;
-        many = length-map ends points_of ∙ many ∙ sym (ap (λ (x : AbstractNetlist). x.classes) seen.is);
-        ends = λ class d low. ends_at k seen class d low signals r.sites;
+        many = ends_many l n passed given ends many k seen;
+        ends = λ class d low. ends_of l n passed given all (port_sites 0 (port_classes k) ++ pin_sites k l) sites ends many groups k seen class d low;
         starts = r.starts;
         width = r.width;
-        high = is.high ∙ named_is f vdd 0 n.ports n.classes (ports_many l n passed given) (different_names (map (λ p. p.name) n.ports) given.sound.ports) (has k seen vdd o.has_vdd) (class_of l n passed given k seen);
-        low = is.low ∙ named_is f vss 0 n.ports n.classes (ports_many l n passed given) (different_names (map (λ p. p.name) n.ports) given.sound.ports) (has k seen vss o.has_vss) (class_of l n passed given k seen);
+        high = high_of l n passed given split is k seen;
+        low = low_of l n passed given split is k seen;
       }
-    where
-      has : (k : AbstractNetlist) → IsSeenAs n k → (name : Name) → In name k.ports → In name (map (λ p. p.name) n.ports)
-      has k seen name i = subst (λ (names : List Name). In name names) (seen_ports n k seen) i
-
-      ends_at : (k : AbstractNetlist) → IsSeenAs n k → (class : ℕ) (d : List Point) → class < k.classes → split.signals.items ≡ port_classes k → map site_of row.sites.items ≡ pin_sites k l
-          → get_or (map points_of ends) class d ≡ points_in class (port_sites 0 (port_classes k) ++ pin_sites k l)
-      ends_at k seen class d low signals sites =
-          let under : class < length ends = let e = ap (λ (x : AbstractNetlist). x.classes) seen.is in omega (arith, low, e, many) in
-          let x = at_place ends class under in
-          get_or_from_slice_get (map points_of ends) class (points_of x.0) d (mapped points_of ends class x.0 x.1)
-          ∙ ap points_of (sym (get_or_from_slice_get ends class x.0 x.0 x.1))
-          ∙ ap (map (λ s. (site_of s).1)) (groups.each class x.0 under)
-          ∙ group_points class all
-          ∙ ap (points_in class) (all_is ∙ ap (λ (ss : List Site). port_sites 0 split.signals.items ++ ss) sites ∙ ap (λ (cs : List ℕ). port_sites 0 cs ++ pin_sites k l) signals)

@@ -22,7 +22,7 @@ use Rattle.ocp_place.specs.declared.row.Site.{Site as Placed}
 use Rattle.ocp_place.specs.declared.row.Row.{Row}
 use Rattle.ocp_place.specs.declared.place.PortClasses.{PortClasses}
 use Rattle.ocp_place.specs.Drawable.{IsDrawableIn}
-use Rattle.ocp_place.specs.Nets.{is_signal, signal_ports, port_classes}
+use Rattle.ocp_place.specs.Nets.{is_signal, signal_ports, port_classes, driven}
 use Rattle.ocp_place.specs.Ports.{IsSplit, IsSound, signal_classes}
 use Rattle.ocp_place.specs.Reaches.{site_of}
 use Rattle.ocp_place.specs.Rows.{IsRow, AreEnds}
@@ -59,18 +59,17 @@ track_of k (c ∷ cs) s i = by s i (track_of (suc k) cs) where
   by t here next = record { class = here; x = refl; number = k; y = refl; low = omega arith }
   by t (there j) next = later t (next t j)
 
-module _ (l : Library) (n : InMemory) (passed : HasPassed false l) (given : IsDrawableIn l n) (split : PortClasses) (is : IsSplit n.ports n.classes split)
-    (row : Row) (are : (k : AbstractNetlist) → IsSeenAs n k → IsRow k l row) where
-  abbrev k : AbstractNetlist
+module _ (l : Library) (n : InMemory) (passed : HasPassed false l) (given : IsDrawableIn l n) (split : PortClasses) (is : IsSplit n.ports n.classes split) where
+  abbrev pub k : AbstractNetlist
   k = known n
 
-  abbrev seen : IsSeenAs n k
+  abbrev pub seen : IsSeenAs n k
   seen = known_seen n given.sound
 
-  count_is : k.classes ≡ n.count
+  pub count_is : k.classes ≡ n.count
   count_is = seen_classes n k seen
 
-  signal_low : (c : ℕ) → In c split.signals.items → c < n.count
+  pub signal_low : (c : ℕ) → In c split.signals.items → c < n.count
   signal_low c i =
       let e : split.signals.items ≡ port_classes k = signals_of l n passed given split is k seen in
       let j : In c (port_classes k) = subst (λ (cs : List ℕ). In c cs) e i in
@@ -80,15 +79,14 @@ module _ (l : Library) (n : InMemory) (passed : HasPassed false l) (given : IsDr
       let at = r.2 in let many = count_is in
       omega (arith, low, at, many)
 
-  driver_low : (c : ℕ) → In c row.drivers.items → c < n.count
-  driver_low c i =
-      let r = are k seen in
+  pub driver_low : (drivers : List ℕ) → ((k : AbstractNetlist) → IsSeenAs n k → drivers ≡ driven k l k.instances) → (c : ℕ) → In c drivers → c < n.count
+  driver_low drivers are c i =
       let o = orderly l n passed given k seen in
-      let low = driven_low k l passed o k.instances (λ one h. h) c (subst (λ (cs : List ℕ). In c cs) r.drivers i) in
+      let low = driven_low k l passed o k.instances (λ one h. h) c (subst (λ (cs : List ℕ). In c cs) (are k seen) i) in
       let many = count_is in
       omega (arith, low, many)
 
-  module _ (all : List Placed) (few : length split.signals.items < 2 ^ 32) (all_is : map site_of all ≡ port_sites 0 split.signals.items ++ map site_of row.sites.items) where
+  module _ (row : Row) (are : (k : AbstractNetlist) → IsSeenAs n k → IsRow k l row) (all : List Placed) (few : length split.signals.items < 2 ^ 32) (all_is : map site_of all ≡ port_sites 0 split.signals.items ++ map site_of row.sites.items) where
     each_site : (s : Placed) → In s all → (s.class < n.count) × (s.x ≤ 100000000000000) × (s.y ≤ 100000000000000)
     each_site s i = elim (In-split (site_of s) (port_sites 0 split.signals.items) (map site_of row.sites.items) (subst (λ (ss : List Site). In (site_of s) ss) all_is (In-map site_of s all i))) [
       | inl a ↦
@@ -124,7 +122,7 @@ module _ (l : Library) (n : InMemory) (passed : HasPassed false l) (given : IsDr
         All-from (λ (s : Placed). (s.x ≤ 100000000000000) × (s.y ≤ 100000000000000)) all (λ s i. let h = each_site s i in (h.1, h.2)) in
         record {
           ports = All-from (λ (c : ℕ). c < length ends) split.signals.items (λ c i. let low = signal_low c i in omega (arith, low, many));
-          drivers = All-from (λ (c : ℕ). c < length ends) row.drivers.items (λ c i. let low = driver_low c i in omega (arith, low, many));
+          drivers = All-from (λ (c : ℕ). c < length ends) row.drivers.items (λ c i. let low = driver_low row.drivers.items (λ j h. (are j h).drivers) c i in omega (arith, low, many));
           few = omega (arith, small, many);
           near = λ c d low. All-same (λ (s : Placed). (s.x ≤ 100000000000000) × (s.y ≤ 100000000000000)) (get_or ends c d).items (filter (λ (s : Placed). nat_eq s.class c) all)
               (groups.each c d low) (All-filter (λ (s : Placed). nat_eq s.class c) (λ (s : Placed). (s.x ≤ 100000000000000) × (s.y ≤ 100000000000000)) all near);

@@ -3,6 +3,8 @@ pub mod Nets
 pub mod Sites
 pub mod Reaches
 pub mod Rows
+pub mod Stood
+pub mod Standing
 pub mod Placed
 pub mod Ports
 pub mod Spans

@@ -40,9 +40,19 @@ pub record IsSplit (ports : List Port) (classes : List ℕ) (s : PortClasses) : 
 abbrev pub points_of : Vec Placed → List Point
 points_of group = map (λ s. (site_of s).1) group.items
 
-abbrev pub in_row : List ℕ → List ℕ → List (Vec Placed) → List ℕ → ℕ → ℕ → ℕ → InRow
-in_row ports drivers ends starts width high low =
-    record { ports = ports; drivers = drivers; ends = map points_of ends; starts = starts; width = width; high = high; low = low }
+abbrev pub in_row : List ℕ → List ℕ → List (Vec Placed) → List ℕ → ℕ → ℕ → ℕ → Bool → List (Vec ℕ) → List ℕ → InRow
+in_row ports drivers ends starts width high low tracks rows row_numbers = record {
+  ports = ports;
+  drivers = drivers;
+  ends = map points_of ends;
+  starts = starts;
+  width = width;
+  high = high;
+  low = low;
+  tracks = tracks;
+  rows = map (λ v. v.items) rows;
+  row_numbers = row_numbers;
+}
 
 -- no point lies further than the coordinates here
 abbrev pub AreNear : List (Vec Placed) → Type 0

@@ -1,17 +1,20 @@
 -- The cells of a netlist, as a row of their instances asks for them: how wide they are, and where their pins are reached.
-use Rattle.std.specs.Prelude.{◌≡◌, ◌≤◌, ℕ, ℤ, pos, List, [], ◌∷◌, map, filter, not, flat_map, length, slice_index, slice_index_or, Some, option_map}
+use Rattle.std.specs.Prelude.{◌≡◌, ◌≤◌, ◌+◌, ℕ, ℤ, pos, List, [], ◌∷◌, map, filter, not, flat_map, length, slice_index, slice_index_or, Option, None, Some, option_map}
 use Rattle.vlsi_base.specs.declared.name.Port.{Port}
 use Rattle.machine_core.specs.Machine.{is_input, names_of}
 use Rattle.cell_model.specs.Cell.{Cell, pin_ports, cell_width}
 use Rattle.cell_model.specs.Library.{Library, cell_of, IsUsable}
-use Rattle.cell_model.specs.Access.{access_point}
+use Rattle.cell_model.specs.Access.{Point, access_point}
 use Rattle.cell_pins.specs.Pins.{all_ports}
 use Rattle.cell_checks.specs.Points.{point_of}
+use Rattle.cell_checks.specs.declared.points.GridPoint.{GridPoint}
 use Rattle.net_core.specs.Places.{Stands}
 use Rattle.ocp_place.specs.declared.reach.PinReach.{PinReach}
 use Rattle.ocp_place.specs.declared.reach.Reach.{Reach}
 use Rattle.ocp_place.specs.declared.row.Site.{Site as Placed}
+use Rattle.row_meaning.specs.Length.{y_at}
 use Rattle.ocp_place.specs.Sites.{Site, site_at}
+use Rattle.ocp_place.specs.Stood.{point_site}
 
 -- a pin of a cell: its place among all pins with vdd and vss, whether it is an output, and where it is reached
 pub record IsPinReach (c : Cell) (p : Port) (r : PinReach) : Type 0 where
@@ -44,6 +47,15 @@ site_of s = (s.class, (pos s.x, pos s.y))
 -- the sites of pins, and the classes of those that are outputs, where all pins of the instance have these classes
 abbrev pub reached_sites : ℤ → List ℕ → List PinReach → List Site
 reached_sites x classes pins = flat_map (λ r. site_at (slice_index classes r.place) x (option_map point_of r.point)) pins
+
+-- the point of a pin in an instance that begins at x in row r
+abbrev pub spot_point : ℕ → ℕ → Option GridPoint → Option Point
+spot_point x r None = None
+spot_point x r (Some q) = Some (pos (x + q.x), pos (y_at r q.y))
+
+-- the sites of its pins, where all pins of the instance have these classes
+abbrev pub spot_sites : ℕ → ℕ → List ℕ → List PinReach → List Site
+spot_sites x r classes pins = flat_map (λ p. point_site (slice_index classes p.place) (spot_point x r p.point)) pins
 
 abbrev pub reached_drivers : List ℕ → List PinReach → List ℕ
 reached_drivers classes pins = map (λ r. slice_index classes r.place) (filter (λ r. r.drives) pins)

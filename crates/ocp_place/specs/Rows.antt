@@ -13,21 +13,25 @@ use Rattle.ocp_place.specs.declared.row.Site.{Site as Placed}
 use Rattle.ocp_place.specs.declared.row.Row.{Row}
 use Rattle.ocp_place.specs.Nets.{driven}
 use Rattle.ocp_place.specs.Sites.{Site, pin_sites, row_starts}
-use Rattle.ocp_place.specs.Reaches.{site_of, reached_sites, reached_drivers}
+use Rattle.ocp_place.specs.Reaches.{site_of, spot_sites, reached_drivers}
 
 -- a site, if there is one
 abbrev pub option_sites : Option Placed → List Site
 option_sites None = []
 option_sites (Some s) = site_of s ∷ []
 
--- the point lies no further than the coordinates here
+-- the point of a cell lies no higher than a row, and no further than the coordinates here, in an instance that begins at x
 abbrev pub IsShort : ℕ → Option GridPoint → Type 0
 IsShort x None = Unit {0}
-IsShort x (Some q) = (x + q.x ≤ 100000000000000) × (q.y ≤ 100000000000000)
+IsShort x (Some q) = (x + q.x ≤ 100000000000000) × (q.y ≤ 5000)
 
 -- so do those of all pins of an instance that stands at x
 abbrev pub HasShortPins : ℕ → List PinReach → Type 0
 HasShortPins x pins = All (λ r. IsShort x r.point) pins
+
+-- a site lies no further than the coordinates here
+abbrev pub IsNearSite : Placed → Type 0
+IsNearSite s = (s.x ≤ 100000000000000) × (s.y ≤ 100000000000000)
 
 -- a class, if it is wanted
 abbrev pub class_if : Bool → ℕ → List ℕ
@@ -36,7 +40,7 @@ class_if wanted class = if wanted then class ∷ [] else []
 -- one more instance at the end of a row, at x, where all its pins have these classes
 pub record IsPutAt (old new : Row) (reach : Reach) (classes : List ℕ) (x : ℕ) : Type 0 where
   pub starts : new.starts.items ≡ old.starts.items ++ x ∷ []
-  pub sites : map site_of new.sites.items ≡ map site_of old.sites.items ++ reached_sites (pos x) classes reach.pins.items
+  pub sites : map site_of new.sites.items ≡ map site_of old.sites.items ++ spot_sites x 0 classes reach.pins.items
   pub drivers : new.drivers.items ≡ old.drivers.items ++ reached_drivers classes reach.pins.items
   pub width : new.width ≡ old.width + reach.width
 

@@ -1,12 +1,14 @@
 // How long the nets of a placement are.
-ghost use Rattle.std.specs.Prelude.{◌≡◌, ◌≤◌, ◌<◌, ◌++◌, ◌∷◌, [], ℤ, List, map, pos, length as list_length, IfSome};
+ghost use Rattle.std.specs.Prelude.{◌≡◌, ◌≢◌, ◌≤◌, ◌<◌, ◌++◌, ◌∷◌, [], ℤ, List, map, pos, length as list_length, slice_index_or, IfSome};
 ghost use Rattle.std.specs.List.{All};
 ghost use Rattle.net_core.specs.Netlist.{Netlist as InMemory};
-ghost use Rattle.net_meaning.specs.Netlist.{AbstractNetlist};
+ghost use Rattle.vlsi_base.specs.Names.{vdd, vss};
+ghost use Rattle.cell_model.specs.Library.{Library as Cells};
+ghost use Rattle.net_meaning.specs.Netlist.{AbstractNetlist, port};
 ghost use Rattle.net_right.specs.View.{IsSeenAs};
-ghost use Rattle.ocp_rows.specs.Length.{extent, half_box, half_perimeter};
+ghost use Rattle.ocp_rows.specs.Length.{extent, net_points, half_box, half_perimeter};
 ghost use Rattle.ocp_place.specs.Law.{row_of};
-ghost use Rattle.ocp_place.specs.Placed.{IsPlacementOf};
+ghost use Rattle.ocp_place.specs.Placed.{IsPlacementOf, IsRowPlacementOf, rows_of};
 ghost use Rattle.ocp_place.specs.Reaches.{site_of};
 ghost use Rattle.ocp_place.specs.Sites.{class_length, length_of};
 ghost use Rattle.ocp_place.specs.Spans.{along_axis, span, shown_span};
@@ -69,6 +71,26 @@ fn half_box(sites: &[Site]) -> u64
     extent(sites, false) + extent(sites, true)
 }
 
+/// Half the perimeter of the box of a class's points.
+fn box_of(placement: &Placement, class: u32) -> u64
+    requires { class < list_length placement.now.ends }
+    ensures value { result ≡ half_box (slice_index_or placement.now.ends class []) }
+    ensures near { result ≤ 200000000000000 }
+{
+    half_box(&placement.ends[class as usize])
+}
+
+/// Half the perimeter of the box of a class's points. Takes no memory.
+pub fn net_length(placement: &Placement, class: u32) -> u64
+    requires { class < list_length placement.now.ends }
+    ensures value { result ≡ half_box (slice_index_or placement.now.ends class []) }
+    ensures near { result ≤ 200000000000000 }
+    ensures rows { (l : Cells) (n : InMemory) (k : AbstractNetlist) → IsRowPlacementOf l n placement.now → IsSeenAs n k
+        → class ≢ k.class (port vdd) → class ≢ k.class (port vss) → result ≡ half_box (net_points k l (rows_of k placement.now) class) }
+{
+    box_of(placement, class)
+}
+
 /// Half the perimeter of the box of a class; 0 for the classes of vdd and vss.
 fn class_length(placement: &Placement, class: usize) -> u64
     requires { class < list_length placement.now.ends }
@@ -95,8 +117,10 @@ fn length(placement: &Placement) -> u128
 /// The sum of half the perimeters of the boxes of all nets of the netlist that a placement is of. Takes no memory, and time for each
 /// terminal.
 pub fn half_perimeter(placement: &Placement, library: &Library) -> u128
-    ensures { (n : InMemory) (k : AbstractNetlist) → IsPlacementOf library.now n placement.now → IsSeenAs n k
+    ensures tracks { (n : InMemory) (k : AbstractNetlist) → IsPlacementOf library.now n placement.now → IsSeenAs n k
         → result ≡ half_perimeter k library.now (row_of k) }
+    ensures rows { (n : InMemory) (k : AbstractNetlist) → IsRowPlacementOf library.now n placement.now → IsSeenAs n k
+        → result ≡ half_perimeter k library.now (rows_of k placement.now) }
 {
     length(placement)
 }

@@ -1,5 +1,5 @@
-// Netlists in one row, in their own order.
-ghost use Rattle.std.specs.Prelude.{◌≡◌, ◌≤◌, ◌<◌, ◌^◌, false, [], map, length, slice_index_or, IfOk, OnOk};
+// Netlists in one row, in their own order, or in rows.
+ghost use Rattle.std.specs.Prelude.{◌≡◌, ◌≤◌, ◌<◌, ◌^◌, ◌++◌, false, [], map, flat_map, length, slice_index_or, IsPermutation, IfOk, OnOk};
 ghost use Rattle.std.specs.List.{All};
 ghost use Rattle.vlsi_base.specs.Names.{scalar};
 ghost use Rattle.machine_core.specs.Named.{is_same_name};
@@ -7,20 +7,29 @@ ghost use Rattle.ocp_place.specs.Sites.{port_sites};
 ghost use Rattle.ocp_place.specs.Reaches.{site_of};
 ghost use Rattle.cell_checks.specs.Checked.{IsChecked as HasPassed};
 ghost use Rattle.ocp_place.specs.Drawable.{IsDrawableIn};
-ghost use Rattle.ocp_place.specs.Placed.{IsPlacementOf};
-ghost use Rattle.ocp_place.specs.Ports.{IsPutIn, IsSplit};
+ghost use Rattle.row_meaning.specs.First.{numbers, first_rows};
+ghost use Rattle.ocp_place.specs.Placed.{IsPlacementOf, IsRowPlacementOf, IsFirstPlacement, IsEvenPlacement};
+ghost use Rattle.ocp_place.specs.Standing.{AreCellsOf};
+ghost use Rattle.ocp_place.specs.Stood.{instance_columns};
+ghost use Rattle.ocp_place.specs.Rows.{AreEnds, IsNearSite};
+ghost use Rattle.net_meaning.specs.Netlist.{AbstractNetlist as Seen};
+ghost use Rattle.net_right.specs.View.{IsSeenAs};
+ghost use Rattle.ocp_place.specs.Ports.{IsPutIn, IsSplit, AreNear};
 
 use crate::row::{Row, Site, grouped, netlist_row};
+use crate::rows::{Cells, Standing, block_width, cells_of, grid_ends, stand_in_rows};
 use cell_checks::Library;
 use cell_pins::is_scalar;
 use net_core::Netlist;
+use row_fill::fill_rows;
 use std::alloc::{AllocError, Global};
 use std::marker::Model;
 use sym_geom::{FIRST_CELL_X, FIRST_TRACK_Y, PITCH};
 use vlsi_base::{Name, Port};
 
-/// The instances of a netlist in one row, in their order: for each class the points of its ports and of its signal pins. A port
-/// stands at the left end of the track of its rank among the ports without the supplies.
+/// The instances of a netlist, placed: for each class the points of its ports and of its signal pins. For tracks they stand in one row
+/// in their order, and a port stands at the left end of the track of its rank among the ports without the supplies. Else they stand in
+/// rows, every other one of which is upside down, and a port stands above the rows in the column of its rank.
 #[derive(Drop)]
 pub struct Placement {
     pub(crate) ports: Vec<u32>,
@@ -30,6 +39,9 @@ pub struct Placement {
     pub(crate) width: u64,
     pub(crate) high: u32,
     pub(crate) low: u32,
+    pub(crate) tracks: bool,
+    pub(crate) rows: Vec<Vec<u32>>,
+    pub(crate) row_numbers: Vec<u32>,
 }
 
 impl Model for Placement {
@@ -38,7 +50,8 @@ impl Model for Placement {
 
     ghost Value = { InRow };
 
-    ghost view = { λ a. in_row a.ports.items a.drivers.items a.ends.items a.starts.items a.width a.high a.low };
+    ghost view = { λ a. in_row a.ports.items a.drivers.items a.ends.items a.starts.items a.width a.high a.low a.tracks a.rows.items
+        a.row_numbers.items };
 
     ghost invariant = { λ a. IsSound a.ports.items a.drivers.items a.ends.items a.starts.items a.width };
 }
@@ -137,7 +150,136 @@ pub fn track_place(
         width,
         high: ports.high,
         low: ports.low,
+        tracks: true,
+        rows: Vec::new(alloc),
+        row_numbers: Vec::new(alloc),
     })
+}
+
+/// The points of all terminals, by their classes, of which there are so many: of ports and of pins.
+fn ends_of(
+    alloc: Global,
+    count: u32,
+    ports: Vec<Site>,
+    pins: &[Site],
+) -> Result<Vec<Vec<Site>>, AllocError>
+    requires ports { All (λ s. s.class < count) ports.items }
+    requires pins { All (λ s. s.class < count) pins.now }
+    requires tops { All IsNearSite ports.items }
+    requires near { All IsNearSite pins.now }
+    ensures many { IfOk result (λ ends. length ends.items ≡ count) }
+    ensures ends { IfOk result (λ ends. AreEnds (ports.items ++ pins.now) ends.items) }
+    ensures near { IfOk result (λ ends. AreNear ends.items) }
+{
+    let mut all = ports;
+    all.extend_from_slice(pins)?;
+    let ends = grouped(alloc, count, &all)?;
+    Ok(ends)
+}
+
+/// A netlist placed in rows of the numbers of its instances.
+fn placed(
+    alloc: Global,
+    netlist: &Netlist,
+    library: &Library,
+    cells: &Cells,
+    rows: Vec<Vec<u32>>,
+) -> Result<Placement, AllocError>
+    requires library { HasPassed false library.now }
+    requires netlist { IsDrawableIn library.now netlist.now }
+    requires cells { AreCellsOf library.now netlist.now cells.now }
+    requires once { IsPermutation (flat_map (λ row. row) (map (λ v. v.items) rows.items)) (numbers 0 (length netlist.now.instances)) }
+    requires some { 1 ≤ length rows.items }
+    requires few { length rows.items ≤ 256 }
+    ensures placed { IfOk result (λ p. IsRowPlacementOf library.now netlist.now p) }
+    ensures rows { IfOk result (λ p. p.rows ≡ map (λ v. v.items) rows.items) }
+{
+    let ports = port_classes(alloc, netlist.ports(), netlist.classes())?;
+    let standing = stand_in_rows(alloc, netlist, library, cells, &rows)?;
+    let width = block_width(standing.width, ports.signals.len());
+    let columns = width / u64::from(PITCH);
+    let at_top = grid_ends(alloc, &ports.signals, columns, rows.len())?;
+    let ends = ends_of(alloc, netlist.count(), at_top, &standing.sites)?;
+    Ok(Placement {
+        ports: ports.signals,
+        drivers: standing.drivers,
+        ends,
+        starts: standing.spots.starts,
+        width,
+        high: ports.high,
+        low: ports.low,
+        tracks: false,
+        rows,
+        row_numbers: standing.spots.row_numbers,
+    })
+}
+
+/// Places the instances of a netlist in these rows of their numbers, from the lowest row up. Takes memory and time for each terminal,
+/// and for the shapes of the cells in use.
+pub fn place_in_rows(
+    alloc: Global,
+    netlist: &Netlist,
+    library: &Library,
+    rows: Vec<Vec<u32>>,
+) -> Result<Placement, AllocError>
+    requires library { HasPassed false library.now }
+    requires netlist { IsDrawableIn library.now netlist.now }
+    requires once { IsPermutation (flat_map (λ row. row) (map (λ v. v.items) rows.items)) (numbers 0 (length netlist.now.instances)) }
+    requires some { 1 ≤ length rows.items }
+    requires few { length rows.items ≤ 256 }
+    ensures placed { IfOk result (λ p. IsRowPlacementOf library.now netlist.now p) }
+    ensures rows { IfOk result (λ p. p.rows ≡ map (λ v. v.items) rows.items) }
+{
+    let cells = cells_of(alloc, netlist, library)?;
+    placed(alloc, netlist, library, &cells, rows)
+}
+
+/// The first rows of cells in use, so many.
+fn first_rows(
+    alloc: Global,
+    library: &Library,
+    netlist: &Netlist,
+    cells: &Cells,
+    rows: u32,
+) -> Result<Vec<Vec<u32>>, AllocError>
+    requires some { 1 ≤ rows }
+    requires library { HasPassed false library.now }
+    requires netlist { IsDrawableIn library.now netlist.now }
+    requires cells { AreCellsOf library.now netlist.now cells.now }
+    ensures rows { IfOk result (λ made. (k : Seen) → IsSeenAs netlist.now k
+        → map (λ v. v.items) made.items ≡ first_rows (instance_columns library.now k.instances) rows) }
+{
+    let _ = library;
+    let _ = netlist;
+    let mut columns = Vec::new(alloc);
+    for width in &cells.widths {
+        columns.push(*width / u64::from(PITCH))?;
+    }
+    let made = fill_rows(alloc, &columns, rows)?;
+    Ok(made)
+}
+
+/// The first placement of a netlist in so many rows: they are filled from the lowest up in the order of instances, each until it is as
+/// wide as its share. Takes memory and time for each terminal, and for the shapes of the cells in use.
+pub fn row_place(
+    alloc: Global,
+    netlist: &Netlist,
+    library: &Library,
+    rows: u32,
+) -> Result<Placement, AllocError>
+    requires library { HasPassed false library.now }
+    requires netlist { IsDrawableIn library.now netlist.now }
+    requires some { 1 ≤ rows }
+    requires few { rows ≤ 256 }
+    ensures placed { IfOk result (λ p. IsRowPlacementOf library.now netlist.now p) }
+    ensures first { IfOk result (λ p. IsFirstPlacement library.now netlist.now rows p) }
+    ensures even { IfOk result (λ p. IsEvenPlacement library.now netlist.now p) }
+    ensures many { IfOk result (λ p. length p.rows ≡ rows) }
+{
+    let cells = cells_of(alloc, netlist, library)?;
+    let rows = first_rows(alloc, library, netlist, &cells, rows)?;
+    let placement = placed(alloc, netlist, library, &cells, rows)?;
+    Ok(placement)
 }
 
 impl Placement {
@@ -181,7 +323,21 @@ impl Placement {
         &self.starts
     }
 
-    /// How wide the row is.
+    /// The numbers of the instances row by row, from the lowest row up; none are kept for tracks.
+    pub fn rows(&self) -> &[Vec<u32>]
+        ensures { map (λ v. v.items) result.now ≡ self.now.rows }
+    {
+        &self.rows
+    }
+
+    /// The number of each instance's row, from 0 for the lowest; none are kept for tracks.
+    pub fn row_numbers(&self) -> &[u32]
+        ensures { result.now ≡ self.now.row_numbers }
+    {
+        &self.row_numbers
+    }
+
+    /// How wide the row is, or the block over rows.
     pub fn width(&self) -> u64
         ensures width { result ≡ self.now.width }
         ensures narrow { result ≤ 70000000000000 }

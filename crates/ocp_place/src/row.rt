@@ -1,21 +1,21 @@
 // The instances of a netlist in one row, and where their pins then lie.
-ghost use Rattle.std.specs.Prelude.{◌≡◌, ◌++◌, ◌∷◌, ◌+◌, ◌<◌, ◌≤◌, false, [], map, option_map, pos, length, take, drop, IfOk, OnOk};
+ghost use Rattle.std.specs.Prelude.{◌≡◌, ◌++◌, ◌∷◌, ◌+◌, ◌<◌, ◌≤◌, false, [], map, length, take, drop, IfOk, IfSome, OnOk};
 ghost use Rattle.std.specs.List.{All};
 ghost use Rattle.net_meaning.specs.Netlist.{AbstractNetlist as Seen};
 ghost use Rattle.net_right.specs.View.{IsSeenAs};
-ghost use Rattle.cell_checks.specs.Points.{point_of};
-ghost use Rattle.ocp_place.specs.Sites.{site_at};
-ghost use Rattle.ocp_place.specs.Reaches.{site_of, reached_sites, reached_drivers};
+ghost use Rattle.ocp_place.specs.Stood.{point_site};
+ghost use Rattle.ocp_place.specs.Reaches.{site_of, reached_drivers, spot_point, spot_sites};
 ghost use Rattle.cell_checks.specs.Checked.{IsChecked as HasPassed};
 ghost use Rattle.ocp_place.specs.Drawable.{IsDrawableIn};
-ghost use Rattle.ocp_place.specs.Rows.{IsRow, AreEnds, IsShort, HasShortPins, IsPutAt, class_if, option_sites};
+ghost use Rattle.row_meaning.specs.Length.{y_at};
+ghost use Rattle.ocp_place.specs.Rows.{IsRow, AreEnds, IsShort, HasShortPins, IsNearSite, IsPutAt, class_if, option_sites};
 ghost use Rattle.sym_geom.specs.declared.grid.TheConstants.{FIRST_CELL_X as first_x};
 
 use crate::reach::{PinReach, Reach, reaches};
 use cell_checks::Library;
 use net_core::Netlist;
 use std::alloc::{AllocError, Global};
-use sym_geom::FIRST_CELL_X;
+use sym_geom::{FIRST_CELL_X, ROW_HEIGHT};
 
 /// A point of a terminal, and the terminal's class.
 #[derive(Clone, Copy)]
@@ -34,17 +34,39 @@ pub(crate) struct Row {
     pub(crate) width: u64,
 }
 
-/// The point of a pin of an instance that stands at `x`; none where the pin isn't reached.
-fn pin_site(pin: &PinReach, class: u32, x: u64) -> Option<Site>
-    requires { IsShort x pin.now.point }
-    ensures { option_sites result ≡ site_at class (pos x) (option_map point_of pin.now.point) }
+/// Where an instance stands: where it begins, and in which row.
+#[derive(Clone, Copy)]
+pub(crate) struct Spot {
+    pub(crate) x: u64,
+    pub(crate) row: u32,
+}
+
+/// The height of a point of a cell in a row. Every other row is upside down.
+fn shown_y(row: u32, y: u64) -> u64
+    requires { y ≤ 5000 }
+    ensures value { result ≡ y_at row y }
+    ensures near { result ≤ 100000000000000 }
+{
+    let foot = u64::from(ROW_HEIGHT) * u64::from(row);
+    if row % 2 == 0 {
+        foot + y
+    } else {
+        foot + (u64::from(ROW_HEIGHT) - y)
+    }
+}
+
+/// The point of a pin of an instance that stands there; none where the pin isn't reached.
+fn pin_site(pin: &PinReach, class: u32, spot: Spot) -> Option<Site>
+    requires { IsShort spot.x pin.now.point }
+    ensures site { option_sites result ≡ point_site class (spot_point spot.x spot.row pin.now.point) }
+    ensures near { IfSome result IsNearSite }
 {
     match pin.point {
         None => None,
         Some(point) => Some(Site {
             class,
-            x: x + point.x,
-            y: point.y,
+            x: spot.x + point.x,
+            y: shown_y(spot.row, point.y),
         }),
     }
 }
@@ -61,7 +83,9 @@ fn push_class(classes: &mut Vec<u32>, class: u32, wanted: bool) -> Result<(), Al
 
 /// Puts a point behind the others, if there is one.
 fn push_site(sites: &mut Vec<Site>, site: Option<Site>) -> Result<(), AllocError>
-    ensures { OnOk result (map site_of sites.new.items ≡ map site_of sites.old.items ++ option_sites site) }
+    requires near { IfSome site IsNearSite }
+    ensures sites { OnOk result (map site_of sites.new.items ≡ map site_of sites.old.items ++ option_sites site) }
+    ensures near { OnOk result (All IsNearSite sites.old.items → All IsNearSite sites.new.items) }
 {
     if let Some(site) = site {
         sites.push(site)?;
@@ -70,12 +94,18 @@ fn push_site(sites: &mut Vec<Site>, site: Option<Site>) -> Result<(), AllocError
 }
 
 impl Row {
-    /// Puts the pins of an instance behind the others, where it stands at `x` and all its pins have these classes.
-    fn put(&mut self, pins: &[PinReach], classes: &[u32], x: u64) -> Result<(), AllocError>
+    /// Puts the pins of an instance behind the others, where it stands there and all its pins have these classes.
+    pub(crate) fn put(
+        &mut self,
+        pins: &[PinReach],
+        classes: &[u32],
+        spot: Spot,
+    ) -> Result<(), AllocError>
         requires inside { All (λ r. r.place < length classes.now) pins.now }
-        requires short { HasShortPins x pins.now }
+        requires short { HasShortPins spot.x pins.now }
         ensures sites { OnOk result (map site_of self.new.sites.items
-            ≡ map site_of self.old.sites.items ++ reached_sites (pos x) classes.now pins.now) }
+            ≡ map site_of self.old.sites.items ++ spot_sites spot.x spot.row classes.now pins.now) }
+        ensures near { OnOk result (All IsNearSite self.old.sites.items → All IsNearSite self.new.sites.items) }
         ensures drivers { OnOk result (self.new.drivers.items ≡ self.old.drivers.items ++ reached_drivers classes.now pins.now) }
         ensures width { OnOk result (self.new.width ≡ self.old.width) }
         ensures starts { OnOk result (self.new.starts.items ≡ self.old.starts.items) }
@@ -83,7 +113,7 @@ impl Row {
         for pin in pins {
             let class = classes[pin.place];
             push_class(&mut self.drivers, class, pin.drives)?;
-            push_site(&mut self.sites, pin_site(pin, class, x))?;
+            push_site(&mut self.sites, pin_site(pin, class, spot))?;
         }
         Ok(())
     }
@@ -97,14 +127,14 @@ impl Row {
     {
         let x = u64::from(FIRST_CELL_X) + self.width;
         self.starts.push(x)?;
-        self.put(&reach.pins, classes, x)?;
+        self.put(&reach.pins, classes, Spot { x, row: 0 })?;
         self.width += reach.width;
         Ok(())
     }
 }
 
 /// So many of the classes, from the first on.
-fn classes_from<'c>(classes: &'c [u32], first: u32, many: usize) -> &'c [u32]
+pub(crate) fn classes_from<'c>(classes: &'c [u32], first: u32, many: usize) -> &'c [u32]
     requires { first + many ≤ length classes.now }
     ensures { result.now ≡ take many (drop first classes.now) }
 {

@@ -2,7 +2,7 @@ use Rattle.std.proofs.Common.{sym, ◌∙◌}
 use Rattle.flow_run.proofs.layout.drawing.Goals as goal
 
 pub returns-clause-wire : goal.returns-clause-wire
-returns-clause-wire c = λ k seen. c.half_perimeter-wire.ensures c.args.netlist.now k c.in_ok-placement.ensures seen
+returns-clause-wire c = λ k seen. c.half_perimeter-wire.ensures.tracks c.args.netlist.now k c.in_ok-placement.ensures seen
 
 pub unreachable-requires : goal.unreachable-requires
 unreachable-requires c =

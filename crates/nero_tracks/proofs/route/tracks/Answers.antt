@@ -11,9 +11,7 @@ pub ends-requires : goal.ends-requires
 ends-requires c =
     let p = c.args.placement.now in
     let low : c.loop-k.k < length c.in_ok-classes.classes.items = omega arith in
-    subst (λ (x : ℕ). x < length p.ends) (sym c.index-class.ensures)
-    (classes_inside p c.ports-ports.result.now c.drivers.result.now c.in_ok-classes.classes.items c.ports-ports.ensures.inside c.drivers.ensures.inside c.in_ok-classes.ensures
-    c.loop-k.k c.index-class.result.now low)
+    subst (λ (x : ℕ). x < length p.ends) (sym c.index-class.ensures) (c.in_ok-classes.ensures.inside c.loop-k.k c.index-class.result.now low)
 
 pub loop-k-preserved : goal.loop-k-preserved
 loop-k-preserved c =
@@ -23,9 +21,7 @@ loop-k-preserved c =
     let t : Track = record { class = class; span = c.track_span.result } in
     let e : c.push.new.self.items ≡ tracks ++ t ∷ [] = c.in_ok-push.ensures.items in
     let low : c.loop-k.k < length c.in_ok-classes.classes.items = omega arith in
-    let inside : class < length p.ends = subst (λ (x : ℕ). x < length p.ends) (sym c.index-class.ensures)
-    (classes_inside p c.ports-ports.result.now c.drivers.result.now c.in_ok-classes.classes.items c.ports-ports.ensures.inside c.drivers.ensures.inside c.in_ok-classes.ensures
-    c.loop-k.k class low) in
+    let inside : class < length p.ends = subst (λ (x : ℕ). x < length p.ends) (sym c.index-class.ensures) (c.in_ok-classes.ensures.inside c.loop-k.k class low) in
     let last : IsTrack p (length tracks) t = is_track p c.ports-ports.result.now _ c.loop-k.k (length tracks) t c.ports-ports.ensures.ports c.ends.ensures.points (sym c.loop-k.invariant.many)
     c.track_span.ensures.span in
     record {

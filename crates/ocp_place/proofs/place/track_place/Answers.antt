@@ -71,3 +71,4 @@ returns c =
     let all_is = c.loop-site.invariant ∙ ap (λ ss. port_sites 0 split.signals.items ++ map site_of ss) whole in
     placed_row l n c.requires.library c.requires.netlist split is c.in_ok-starts.field-0 c.in_ok-starts.ensures
     c.loop-site.all.items all_is c.in_ok-ends.ends.items (c.in_ok-ends.ensures.many ∙ c.count.ensures) (subst (λ ss. AreEnds ss c.in_ok-ends.ends.items) c.deref-2.ensures.value c.in_ok-ends.ensures.ends)
+    c.new.result.items c.new-2.result.items
