@@ -88,7 +88,7 @@ reached_are n x owner c classes has (p ∷ ports) (r ∷ pins) (one_pin is rest)
     ∙ ap (λ o. site_at (n.class (pin_of owner p.name)) x o ++ reached_sites x classes pins) is.point
     ∙ ap (λ (ss : List Site). site_at (n.class (pin_of owner p.name)) x (access_point c p.name) ++ ss) (reached_are n x owner c classes has ports pins rest)
 
--- a pin of row 0 lies as its cell shows it
+-- a pin in the lowest row lies as its cell shows it
 pub level_sites : (x : ℕ) (classes : List ℕ) (pins : List PinReach) → spot_sites x 0 classes pins ≡ reached_sites (pos x) classes pins
 level_sites x classes [] = refl
 level_sites x classes (r ∷ pins) = ap₂ (λ (a b : List Site). a ++ b) (level (slice_index classes r.place) r.point) (level_sites x classes pins) where
