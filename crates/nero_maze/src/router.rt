@@ -15,7 +15,7 @@ use std::alloc::{AllocError, Global};
 use std::marker::Model;
 
 /// No path of free nodes leads from the net's tree to the target.
-#[derive(Clone, Copy, Debug, Drop)]
+#[derive(Clone, Copy, Drop)]
 pub struct NoPath;
 
 /// Trees of nets that grow over the free nodes of a grid, each by least paths.
