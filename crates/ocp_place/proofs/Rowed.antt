@@ -1,5 +1,5 @@
 -- The placement of a netlist's row.
-use Rattle.std.proofs.Common.{◌≡◌, true, false, ℕ, ◌<◌, ◌≤◌, List, ◌++◌, map, filter, length, get_or, sym, ap, subst, ◌∙◌, arith, length-append}
+use Rattle.std.proofs.Common.{◌≡◌, true, false, ℕ, ◌<◌, ◌≤◌, List, ◌++◌, map, filter, length, get_or, sym, ap, subst, ◌∙◌, arith, length-append, refl}
 use Rattle.std.specs.Prelude.{flat_map}
 use Rattle.std.specs.Global.{Vec}
 use Rattle.std.proofs.lemmas.List.{length-map}
@@ -94,6 +94,7 @@ placed_row l n passed given split is row are all all_is ends many groups rows nu
       let signals = signals_of l n passed given split is k seen in
       let sites = all_is ∙ ap (λ (ss : List Site). port_sites 0 split.signals.items ++ ss) r.sites ∙ ap (λ (cs : List ℕ). port_sites 0 cs ++ pin_sites k l) signals in
       record {
+        for_tracks = refl;
         ports = signals;
         drivers = r.drivers;
         many = ends_many l n passed given ends many k seen;

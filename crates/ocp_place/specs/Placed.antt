@@ -1,5 +1,5 @@
 -- Placements, as they are kept in memory: for private tracks, and in rows.
-use Rattle.std.specs.Prelude.{◌≡◌, ◌<◌, ◌≤◌, ◌++◌, ◌/◌, Bool, false, ℕ, pos, List, map, flat_map, length, slice_index_or, IsPermutation}
+use Rattle.std.specs.Prelude.{◌≡◌, ◌<◌, ◌≤◌, ◌++◌, ◌/◌, Bool, false, true, ℕ, pos, List, map, flat_map, length, slice_index_or, IsPermutation}
 use Rattle.vlsi_base.specs.Names.{vdd, vss}
 use Rattle.sym_geom.specs.declared.grid.TheConstants.{FIRST_CELL_X, PITCH}
 use Rattle.sym_geom.specs.declared.item.Instance.{Instance}
@@ -31,13 +31,15 @@ pub record InRow : Type 0 where
   -- the classes of vdd and of vss
   pub high : ℕ
   pub low : ℕ
-  -- where the instances stand in rows: their numbers row by row from the lowest up, and the number of each one's row
+  -- whether it is for tracks
   pub tracks : Bool
+  -- where the instances stand in rows: their numbers row by row from the lowest up, and the number of each one's row
   pub rows : List (List ℕ)
   pub row_numbers : List ℕ
 
 -- the placement is that of a netlist, as it is seen
 pub record IsRowOf (n : AbstractNetlist) (l : Library) (p : InRow) : Type 0 where
+  pub for_tracks : p.tracks ≡ true
   pub ports : p.ports ≡ port_classes n
   pub drivers : p.drivers ≡ driven n l n.instances
   pub many : length p.ends ≡ n.classes
