@@ -402,13 +402,13 @@ head_label f h =
 
 pub figure_read : (bytes : List ℕ) (f : Figure) → IsApText bytes f → IsFigure f
 figure_read bytes f is =
-    let k = is.scale in
-    let head = fields_behind is.head in
+    let k = is.form.scale in
+    let head = fields_behind is.form.head in
     record {
-      name = label_named f.name (at head 0) (head_label head (head_clean (has_letter 72 is.head) head is.right_head).0) is.name;
-      box = box_read k is.box f.bounds is.right_box is.bounds;
-      lines = all_items IsLine k (item_line k) [] is.others f.items is.items;
-      instances = (all_apart k [] is.others f.items is.items).1;
+      name = label_named f.name (at head 0) (head_label head (head_clean (has_letter 72 is.form.head) head is.form.right_head).0) is.form.name;
+      box = box_read k is.form.box f.bounds is.form.right_box is.form.bounds;
+      lines = all_items IsLine k (item_line k) [] is.form.others f.items is.form.items;
+      instances = (all_apart k [] is.form.others f.items is.form.items).1;
     }
 
 pub what_is_read : ReadIsAFigure

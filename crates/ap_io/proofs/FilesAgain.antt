@@ -21,7 +21,7 @@ use Rattle.ap_io.specs.Fields.{at, is_number, is_label, is_text_byte, lower, num
 use Rattle.ap_io.specs.Words.{scale_of}
 use Rattle.ap_io.specs.LineFaults.{is_blank_line, item_fault, is_taken, names_on, name_on, is_letter, letter_of, fields_behind, head_fault, is_head, name_line_fault, is_box, box_fault, box_line_fault, version_fault, is_version, long_name, far_coordinate, limit_fault}
 use Rattle.ap_io.specs.Items.{IsBox}
-use Rattle.ap_io.specs.ApText.{IsLine, IsItemWithin, IsFigure, IsWithinLimits, IsLabel, IsShortLabel, AreItems, IsApText, instance_names, lines_in, IsNear}
+use Rattle.ap_io.specs.ApText.{IsLine, IsItemWithin, IsFigure, HasNearLines, IsWithinLimits, IsLabel, IsShortLabel, AreItems, IsApLines, IsApText, instance_names, lines_in, IsNear}
 use Rattle.ap_io.proofs.NumbersAgain.{coordinate_again}
 use Rattle.ap_io.proofs.NamesAgain.{label_again, word_again}
 use Rattle.ap_io.proofs.ContactsAgain.{differ}
@@ -240,13 +240,12 @@ head_text_again name b rest =
     ∙ ap (λ (t : List ℕ). version_line ++ 10 ∷ 72 ∷ 32 ∷ t) (append_assoc (name_text name) tail rest
     ∙ ap (λ (t : List ℕ). name_text name ++ (codes ",P,01/01/2000,100" ++ 10 ∷ 65 ∷ 32 ∷ t)) boxed ∙ headed)
 
-pub written_again : (f : Figure) → IsFigure f → IsWithinLimits f → IsApText (text_of f) f
-written_again f figure within =
+pub lines_again : (f : Figure) → IsFigure f → HasNearLines f → IsApLines (text_of f) f
+lines_again f figure within =
     let rest = items_text f.items in
     let h = head_again f.name figure.name within.name in
     let b = box_again f.bounds figure.box within.x1 within.y1 within.x2 within.y2 in
     record {
-      few = within.few;
       version = version_line;
       head = head_line f.name;
       scale = Hundred;
@@ -263,3 +262,6 @@ written_again f figure within =
       bounds = b.bounds;
       items = items_again [] f.items figure.lines within.items figure.instances;
     }
+
+pub written_again : (f : Figure) → IsFigure f → IsWithinLimits f → IsApText (text_of f) f
+written_again f figure within = record { few = within.few; form = lines_again f figure within.near }

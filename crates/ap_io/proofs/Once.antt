@@ -22,7 +22,7 @@ use Rattle.ap_io.specs.Items.{IsSegment, IsConnector, IsVia, IsInstance, IsRefer
 use Rattle.ap_io.specs.LineFaults.{has_letter, name_on, letter_of, fields_behind, is_blank_line, is_end, is_taken, names_on, item_fault, fault_by}
 use Rattle.ap_io.specs.ApText.{lines_in, AreItems, ends, blank, next, IsApText}
 use Rattle.ap_io.specs.Refusal.{fault_on, or_behind, end_refusal, items_refusal, box_refusal, head_refusal, first_refusal, long, faulty}
-use Rattle.ap_io.specs.Laws.{OneFigure, NeverBoth, OneRefusal}
+use Rattle.ap_io.specs.Laws.{LinesSayOneFigure, OneFigure, NeverBoth, OneRefusal}
 
 some_once : {A : Type 0} (x y : A) → Some x ≡ Some y → x ≡ y
 some_once x y h = cc
@@ -106,13 +106,13 @@ items_clean scale before names (line ∷ rest) (one ∷ items) (next some clean 
 whole_clean : (bytes : List ℕ) (f : Figure) → IsApText bytes f → first_refusal (lines_in bytes) ≡ None
 unfolding first_refusal
 whole_clean bytes f is =
-    let k = is.scale in
-    ap first_refusal is.lines
-    ∙ ap (λ (x : Option LineFault). or_behind 1 (is.head ∷ is.box ∷ is.others) x (head_refusal (is.head ∷ is.box ∷ is.others))) is.right_version
-    ∙ ap (λ (x : Option LineFault). or_behind 2 (is.box ∷ is.others) x (box_refusal (scale_of (at (fields_behind is.head) 3)) (is.box ∷ is.others))) is.right_head
-    ∙ ap (λ (o : Option Scale). box_refusal o (is.box ∷ is.others)) is.at_scale
-    ∙ ap (λ (x : Option LineFault). or_behind 3 is.others x (items_refusal k 3 [] is.others)) is.right_box
-    ∙ items_clean k 3 [] is.others f.items is.items
+    let k = is.form.scale in
+    ap first_refusal is.form.lines
+    ∙ ap (λ (x : Option LineFault). or_behind 1 (is.form.head ∷ is.form.box ∷ is.form.others) x (head_refusal (is.form.head ∷ is.form.box ∷ is.form.others))) is.form.right_version
+    ∙ ap (λ (x : Option LineFault). or_behind 2 (is.form.box ∷ is.form.others) x (box_refusal (scale_of (at (fields_behind is.form.head) 3)) (is.form.box ∷ is.form.others))) is.form.right_head
+    ∙ ap (λ (o : Option Scale). box_refusal o (is.form.box ∷ is.form.others)) is.form.at_scale
+    ∙ ap (λ (x : Option LineFault). or_behind 3 is.form.others x (items_refusal k 3 [] is.form.others)) is.form.right_box
+    ∙ items_clean k 3 [] is.form.others f.items is.form.items
 
 pub never_both : NeverBoth
 never_both bytes f e is (long many same) = let few = is.few in absurd (omega (arith, many, few))
@@ -213,9 +213,9 @@ drawn_once k box others f g name a b = λ i. record {
   items = items_once k [] others f.items g.items a.1 b.1 i;
 }
 
-pub one_figure : OneFigure
+pub one_figure_of_lines : LinesSayOneFigure
 unfolding first_of rest_of
-one_figure bytes f g a b =
+one_figure_of_lines bytes f g a b =
     let lines = sym a.lines ∙ b.lines in
     let heads : a.head ≡ b.head = ap (λ (ls : List (List ℕ)). first_of (rest_of ls)) lines in
     let boxes : a.box ≡ b.box = ap (λ (ls : List (List ℕ)). first_of (rest_of (rest_of ls))) lines in
@@ -226,3 +226,6 @@ one_figure bytes f g a b =
     let Q : List ℕ → Type 0 = λ box. IsDrawnBy a.scale box b.others g in
     let R : List (List ℕ) → Type 0 = λ ls. IsDrawnBy a.scale a.box ls g in
     drawn_once a.scale a.box a.others f g names (a.bounds, a.items) (subst R (sym others) (subst Q (sym boxes) (subst P scales (b.bounds, b.items))))
+
+pub one_figure : OneFigure
+one_figure bytes f g a b = one_figure_of_lines bytes f g a.form b.form

@@ -284,24 +284,24 @@ all_items P k each names (line ∷ rest) (one ∷ items) (next some clean is mor
 
 -- all items of a figure that is read are within the limits
 pub items_within : (bytes : List ℕ) (f : Figure) → IsApText bytes f → All IsItemWithin f.items
-items_within bytes f is = all_items IsItemWithin is.scale (item_within is.scale) [] is.others f.items is.items
+items_within bytes f is = all_items IsItemWithin is.form.scale (item_within is.form.scale) [] is.form.others f.items is.form.items
 
 -- and its wires and pins have widths of at least 1
 pub widths_positive : (bytes : List ℕ) (f : Figure) → IsApText bytes f → All IsWide f.items
-widths_positive bytes f is = all_items IsWide is.scale (item_wide is.scale) [] is.others f.items is.items
+widths_positive bytes f is = all_items IsWide is.form.scale (item_wide is.form.scale) [] is.form.others f.items is.form.items
 
 -- ---- the box
 
 -- the edges of the box are within the limits
 pub box_ready : (bytes : List ℕ) (f : Figure) → IsApText bytes f → IsNear f.bounds.x1 × IsNear f.bounds.y1 × IsNear f.bounds.x2 × IsNear f.bounds.y2
 box_ready bytes f is =
-    let k = is.scale in
-    let fields = fields_behind is.box in
-    let near = box_near k is.box is.right_box in (
-      near_field k fields 4 0 f.bounds.x1 near (omega arith) is.bounds.x1,
-      near_field k fields 4 1 f.bounds.y1 near (omega arith) is.bounds.y1,
-      near_field k fields 4 2 f.bounds.x2 near (omega arith) is.bounds.x2,
-      near_field k fields 4 3 f.bounds.y2 near (omega arith) is.bounds.y2,
+    let k = is.form.scale in
+    let fields = fields_behind is.form.box in
+    let near = box_near k is.form.box is.form.right_box in (
+      near_field k fields 4 0 f.bounds.x1 near (omega arith) is.form.bounds.x1,
+      near_field k fields 4 1 f.bounds.y1 near (omega arith) is.form.bounds.y1,
+      near_field k fields 4 2 f.bounds.x2 near (omega arith) is.form.bounds.x2,
+      near_field k fields 4 3 f.bounds.y2 near (omega arith) is.form.bounds.y2,
     )
 
 -- ---- the name
@@ -314,8 +314,8 @@ head_clean true f h =
 -- the name of a figure that is read is within the limit
 pub name_short : (bytes : List ℕ) (f : Figure) → IsApText bytes f → IsShortLabel f.name
 name_short bytes f is =
-    let fields = fields_behind is.head in
-    label_kept f.name (at fields 0) (head_clean (has_letter 72 is.head) fields is.right_head).1 is.name
+    let fields = fields_behind is.form.head in
+    label_kept f.name (at fields 0) (head_clean (has_letter 72 is.form.head) fields is.form.right_head).1 is.form.name
 
 -- ---- how many there are
 
@@ -341,8 +341,8 @@ fewer_items k names (line ∷ rest) (one ∷ items) (next some clean is more) = 
 -- there are fewer items than bytes
 pub few_items : (bytes : List ℕ) (f : Figure) → IsApText bytes f → length f.items < length bytes
 few_items bytes f is =
-    let all : length (lines_of bytes) ≡ suc (suc (suc (length is.others))) = sym (length-map (lines_of bytes) without_return) ∙ ap length is.lines in
-    omega (arith, all, few_lines bytes, fewer_items is.scale [] is.others f.items is.items)
+    let all : length (lines_of bytes) ≡ suc (suc (suc (length is.form.others))) = sym (length-map (lines_of bytes) without_return) ∙ ap length is.form.lines in
+    omega (arith, all, few_lines bytes, fewer_items is.form.scale [] is.form.others f.items is.form.items)
 
 -- a figure that is read is within the limits
 pub figure_within : (bytes : List ℕ) (f : Figure) → IsApText bytes f → IsWithin f

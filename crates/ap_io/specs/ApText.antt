@@ -113,15 +113,19 @@ IsItemWithin (item.Instance i) = IsNear i.x × IsNear i.y × IsShort i.model × 
 IsItemWithin (item.Reference r) = IsNear r.x × IsNear r.y × IsShort r.word
 IsItemWithin (item.Remark text) = Unit {0}
 
--- a figure whose text is within the limits
-pub record IsWithinLimits (f : Figure) : Type 0 where
-  pub few : length (text_of f) ≤ MOST_NETLIST_BYTES
+-- a figure whose lines are within the limits
+pub record HasNearLines (f : Figure) : Type 0 where
   pub name : IsShortLabel f.name
   pub x1 : IsNear f.bounds.x1
   pub y1 : IsNear f.bounds.y1
   pub x2 : IsNear f.bounds.x2
   pub y2 : IsNear f.bounds.y2
   pub items : All IsItemWithin f.items
+
+-- and whose text as a whole is
+pub record IsWithinLimits (f : Figure) : Type 0 where
+  pub few : length (text_of f) ≤ MOST_NETLIST_BYTES
+  pub near : HasNearLines f
 
 -- ---- files
 
@@ -139,10 +143,9 @@ pub data AreItems (scale : Scale) : List (List ℕ) → List (List ℕ) → List
   next : {names rest : List (List ℕ)} {line : List ℕ} {one : Item} {items : List Item} → is_blank_line line ≡ false → item_fault scale (is_taken names line) line ≡ None
       → IsItem scale line one → AreItems scale (names ++ names_on line) rest items → AreItems scale names (line ∷ rest) (one ∷ items)
 
--- The bytes are the ap file of the figure: its version, its name with the scale, its box and its items, each on a line without
--- a fault.
-pub record IsApText (bytes : List ℕ) (f : Figure) : Type 0 where
-  pub few : length bytes ≤ MOST_NETLIST_BYTES
+-- The bytes are lines of the format that say the figure: its version, its name with the scale, its box and its items, each on a line
+-- without a fault.
+pub record IsApLines (bytes : List ℕ) (f : Figure) : Type 0 where
   pub version : List ℕ
   pub head : List ℕ
   pub scale : Scale
@@ -156,3 +159,8 @@ pub record IsApText (bytes : List ℕ) (f : Figure) : Type 0 where
   pub right_box : box_line_fault scale box ≡ None
   pub bounds : IsBox scale (fields_behind box) f.bounds
   pub items : AreItems scale [] others f.items
+
+-- The bytes are the ap file of the figure: such lines, within the limit of a file.
+pub record IsApText (bytes : List ℕ) (f : Figure) : Type 0 where
+  pub few : length bytes ≤ MOST_NETLIST_BYTES
+  pub form : IsApLines bytes f

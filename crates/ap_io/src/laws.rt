@@ -1,9 +1,14 @@
 // What follows from the definitions of an ap file and of its refusals.
-ghost use Rattle.ap_io.specs.Laws.{NeverBoth, OneFigure, OneRefusal, ReadIsAFigure, WrittenIsReadAgain};
+ghost use Rattle.ap_io.specs.Laws.{LinesAreReadAgain, LinesSayOneFigure, NeverBoth, OneFigure, OneRefusal, ReadIsAFigure, WrittenIsReadAgain};
 
 /// A file is that of at most one figure.
 pub fn one_figure()
     ensures { OneFigure }
+{}
+
+/// Lines of the format say at most one figure, however long they are together.
+pub fn lines_say_one_figure()
+    ensures { LinesSayOneFigure }
 {}
 
 /// A file that is a figure's has no refusal.
@@ -26,4 +31,10 @@ pub fn what_is_read_is_a_figure()
 /// What is written of a figure that the format can hold, and that is within the limits, is the ap file of this figure.
 pub fn written_is_read_again()
     ensures { WrittenIsReadAgain }
+{}
+
+/// What is written of a figure that the format can hold, and whose lines are within the limits, is lines of the format that say this
+/// figure, however long the text is.
+pub fn lines_are_read_again()
+    ensures { LinesAreReadAgain }
 {}

@@ -21,7 +21,8 @@ mod writer;
 pub use fault::LineFault;
 pub use figure::Figure;
 pub use laws::{
-    never_both, one_figure, one_refusal, what_is_read_is_a_figure, written_is_read_again,
+    lines_are_read_again, lines_say_one_figure, never_both, one_figure, one_refusal,
+    what_is_read_is_a_figure, written_is_read_again,
 };
 pub use limits::{MOST_COORDINATE, MOST_NAME_BYTES};
 pub use reader::read_ap;

@@ -455,12 +455,14 @@ module _ (l : Library) (n : InMemory) (f : Figure) (passed : HasPassed false l) 
   pub is_within : IsWithinLimits f
   is_within = record {
     few = few_bytes;
-    name = title.short;
-    x1 = box.x1;
-    y1 = box.y1;
-    x2 = box.x2;
-    y2 = box.y2;
-    items = all_of IsItemWithin f.items within;
+    near = record {
+      name = title.short;
+      x1 = box.x1;
+      y1 = box.y1;
+      x2 = box.x2;
+      y2 = box.y2;
+      items = all_of IsItemWithin f.items within;
+    };
   }
 
 pub drawing_can_be_written : DrawingCanBeWritten
