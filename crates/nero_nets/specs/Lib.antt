@@ -1,0 +1,4 @@
+pub mod Routed
+pub mod Answers
+pub mod Marks
+pub mod Law
