@@ -8,12 +8,12 @@ use Rattle.tool_words.specs.declared.values.Encoding.{Encoding}
 use Rattle.tool_words.specs.declared.values.Encoding.TheVariants as encoding_variant
 use Rattle.tool_words.specs.Table.{library, out}
 use Rattle.tool_words.specs.Arguments.{given}
-use Rattle.tool_words.specs.Values.{is_numeral, number_or_default, number_of, text_of}
+use Rattle.tool_words.specs.Values.{is_numeral, number_or_default, number_of, is_set, text_of}
 use Rattle.tool_words.specs.Spelling.{are_taken}
 use Rattle.flow_words.specs.declared.words.Numbers.{Numbers}
 use Rattle.flow_words.specs.declared.words.FlowCommand.{FlowCommand}
 use Rattle.flow_words.specs.declared.words.GenCommand.{GenCommand}
-use Rattle.flow_words.specs.Words.{gen, size, numbers_of, flow_with, flow_on, gen_with, generated, gen_from, gen_of}
+use Rattle.flow_words.specs.Words.{gen, size, tracks, numbers_of, has_route, flow_with, flow_on, gen_with, generated, gen_from, gen_of}
 
 -- a number that is given lies within its bounds
 within : (n : ℕ) (text : Option (List ℕ)) → number_or_default size.form text ≡ Some n → (8 ≤ n) × (n ≤ 4000)
@@ -31,25 +31,31 @@ within n (Some text) h = by (is_numeral text) (nat_le 8 (value_of text)) (nat_le
 abbrev IsNamed : FlowCommand → Type 0
 IsNamed f = f.source ≡ f.out ++ codes ".vbe"
 
-named_by : (e : Encoding) (ns : Option Numbers) (l o : Option (List ℕ)) (f : FlowCommand) → flow_with (option_map generated o) (Some e) ns l o ≡ Some f → IsNamed f
-named_by e ns l None f h = absurd (cc h)
-named_by e None l (Some o) f h = absurd (cc h)
-named_by e (Some ns) None (Some o) f h = absurd (cc h)
-named_by e (Some ns) (Some l) (Some o) f h =
-    let made : FlowCommand = record {
-      source = o ++ codes ".vbe";
-      library = l;
-      out = o;
-      encoding = e;
-      rows = ns.rows;
-      metals = ns.metals;
-      seed = ns.seed;
-      moves = ns.moves;
-      nodes = ns.nodes;
-      fanout = ns.fanout;
-    } in
-    let same : made ≡ f = cc h in
-    subst IsNamed same refl
+named_by : (e : Encoding) (t : Bool) (ns : Option Numbers) (l o : Option (List ℕ)) (f : FlowCommand) → flow_with (option_map generated o) (Some e) t ns l o ≡ Some f → IsNamed f
+named_by e t ns l None f h = absurd (cc h)
+named_by e t None l (Some o) f h = absurd (cc h)
+named_by e t (Some ns) None (Some o) f h = absurd (cc h)
+named_by e t (Some ns) (Some l) (Some o) f h = by (has_route t ns.rows) h where
+  made : FlowCommand
+  made = record {
+    source = o ++ codes ".vbe";
+    library = l;
+    out = o;
+    encoding = e;
+    tracks = t;
+    rows = ns.rows;
+    metals = ns.metals;
+    seed = ns.seed;
+    moves = ns.moves;
+    nodes = ns.nodes;
+    fanout = ns.fanout;
+  }
+
+  by : (b : Bool) → cond b (Some made) None ≡ Some f → IsNamed f
+  by true h =
+      let same : made ≡ f = cc h in
+      subst IsNamed same refl
+  by false h = absurd (cc h)
 
 -- what the words of `gen` ask for
 pub record IsSound (c : GenCommand) : Type 0 where
@@ -72,5 +78,5 @@ gen_sound ws c h = by (are_taken gen ws) h where
   by true h =
       gen_by (number_of size (given gen ws)) (flow_on (option_map generated (text_of out (given gen ws))) (Some encoding_variant.Adjacent) (given gen ws)) c
       (λ k e. within k (first_of size.name (given gen ws)) e)
-      (λ x e. named_by encoding_variant.Adjacent (numbers_of (given gen ws)) (text_of library (given gen ws)) (text_of out (given gen ws)) x e) h
+      (λ x e. named_by encoding_variant.Adjacent (is_set tracks (given gen ws)) (numbers_of (given gen ws)) (text_of library (given gen ws)) (text_of out (given gen ws)) x e) h
   by false h = absurd (cc h)

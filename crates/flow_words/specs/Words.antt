@@ -1,17 +1,18 @@
 -- The words of `flow` and `gen`, and what they ask of them.
-use Rattle.std.specs.Prelude.{ℕ, true, false, List, [], ◌∷◌, ◌++◌, Option, None, Some, option_map, codes}
+use Rattle.std.specs.Prelude.{◌≡◌, ◌≤◌, IfSome, ℕ, Bool, true, false, ◌||◌, List, [], ◌∷◌, ◌++◌, Option, None, Some, option_map, nat_eq, if◌then◌else◌, codes}
 use Rattle.tool_words.specs.declared.values.Encoding.{Encoding}
 use Rattle.tool_words.specs.declared.values.Encoding.TheVariants as encoding_variant
 use Rattle.tool_words.specs.Table.{Entry, Setting, Flag, Number, library, out, encoding, seed, nodes, fanout}
 use Rattle.tool_words.specs.Arguments.{Given}
-use Rattle.tool_words.specs.Values.{source_of, text_of, number_of, number_if_given, encoding_of}
+use Rattle.tool_words.specs.Values.{source_of, text_of, is_set, number_of, number_if_given, encoding_of}
 use Rattle.tool_words.specs.Spelling.{spelled}
 use Rattle.flow_words.specs.declared.words.Numbers.{Numbers}
 use Rattle.flow_words.specs.declared.words.FlowCommand.{FlowCommand}
 use Rattle.flow_words.specs.declared.words.GenCommand.{GenCommand}
 
+-- that each net has a track of its own
 abbrev pub tracks : Setting
-tracks = record { name = codes "tracks"; letter = None; value = []; required = true; form = Flag }
+tracks = record { name = codes "tracks"; letter = None; value = []; required = false; form = Flag }
 
 -- how many rows of cells, and how many metals
 abbrev pub rows : Setting
@@ -53,24 +54,36 @@ numbers_with _ _ _ _ _ _ = None
 abbrev pub numbers_of : Given → Option Numbers
 numbers_of g = numbers_with (number_if_given rows g) (number_of metals g) (number_of seed g) (number_of moves g) (number_of nodes g) (number_of fanout g)
 
-abbrev pub flow_with : Option (List ℕ) → Option Encoding → Option Numbers → Option (List ℕ) → Option (List ℕ) → Option FlowCommand
-flow_with (Some source) (Some encoding) (Some n) (Some library) (Some out) = Some (record {
-  source = source;
-  library = library;
-  out = out;
-  encoding = encoding;
-  rows = n.rows;
-  metals = n.metals;
-  seed = n.seed;
-  moves = n.moves;
-  nodes = n.nodes;
-  fanout = n.fanout;
-})
-flow_with _ _ _ _ _ = None
+-- without tracks the cells stand in one row
+abbrev pub is_one : Option ℕ → Bool
+is_one None = false
+is_one (Some n) = nat_eq n 1
+
+abbrev pub has_route : Bool → Option ℕ → Bool
+has_route tracks rows = tracks || is_one rows
+
+abbrev pub flow_with : Option (List ℕ) → Option Encoding → Bool → Option Numbers → Option (List ℕ) → Option (List ℕ) → Option FlowCommand
+flow_with (Some source) (Some encoding) tracks (Some n) (Some library) (Some out) =
+    if has_route tracks n.rows
+    then Some (record {
+      source = source;
+      library = library;
+      out = out;
+      encoding = encoding;
+      tracks = tracks;
+      rows = n.rows;
+      metals = n.metals;
+      seed = n.seed;
+      moves = n.moves;
+      nodes = n.nodes;
+      fanout = n.fanout;
+    })
+    else None
+flow_with _ _ _ _ _ _ = None
 
 -- what `flow` is asked to do with a source and an encoding
 abbrev pub flow_on : Option (List ℕ) → Option Encoding → Given → Option FlowCommand
-flow_on source encoding g = flow_with source encoding (numbers_of g) (text_of library g) (text_of out g)
+flow_on source encoding g = flow_with source encoding (is_set tracks g) (numbers_of g) (text_of library g) (text_of out g)
 
 abbrev pub gen_with : Option ℕ → Option FlowCommand → Option GenCommand
 gen_with (Some size) (Some flow) = Some (record { size = size; flow = flow })
@@ -93,3 +106,17 @@ flow_of words = spelled flow flow_from words
 
 abbrev pub gen_of : List (List ℕ) → Option GenCommand
 gen_of words = spelled gen gen_from words
+
+-- ---- what such words ask for
+
+-- numbers within the bounds of their options
+pub record IsWithinBounds (c : FlowCommand) : Type 0 where
+  pub rows : IfSome c.rows (λ r. (1 ≤ r) × (r ≤ 256))
+  pub metals : (4 ≤ c.metals) × (c.metals ≤ 6)
+
+-- words spell nothing else
+abbrev pub FlowsAreWithinBounds : Type 0
+FlowsAreWithinBounds = (words : List (List ℕ)) (c : FlowCommand) → flow_of words ≡ Some c → IsWithinBounds c
+
+abbrev pub GensAreWithinBounds : Type 0
+GensAreWithinBounds = (words : List (List ℕ)) (c : GenCommand) → gen_of words ≡ Some c → IsWithinBounds c.flow

@@ -1,16 +1,16 @@
 // The words of `flow` and `gen`, and what they ask of them.
 ghost use Rattle.std.specs.Prelude.{◌≡◌, Some, None, IfOk, IsErrOf};
 ghost use Rattle.tool_words.specs.declared.words.WordsError.TheVariants.{Usage};
-ghost use Rattle.flow_words.specs.Words.{numbers_of, flow_on};
+ghost use Rattle.flow_words.specs.Words.{numbers_of, has_route, flow_on};
 
 use std::alloc::Global;
 use tool_words::{
     ENCODING, Encoding, Entry, FANOUT, Form, FromValues, LIBRARY, NODES, OUT, SEED, Setting,
-    Values, WordsError, encoding_given, number, number_if_given, source, text,
+    Values, WordsError, encoding_given, is_set, number, number_if_given, source, text,
 };
 use vlsi_base::FileName;
 
-/// What `flow` is asked to do: to lay the source out with the cells of the library, in tracks.
+/// What `flow` is asked to do: to lay the source out with the cells of the library.
 #[derive(Drop)]
 pub struct FlowCommand {
     /// The source's file, whose name ends in `.vbe` or `.fsm`.
@@ -21,9 +21,11 @@ pub struct FlowCommand {
     pub out: FileName,
     /// How the states of a source in `.fsm` get their codes.
     pub encoding: Encoding,
-    /// How many rows the cells stand in, 1 to 256, where the words say so.
+    /// Whether each net has a track of its own, above one row of cells; else nets are routed over the rows.
+    pub tracks: bool,
+    /// How many rows the cells stand in, 1 to 256, where the words say so; without effect beside tracks.
     pub rows: Option<u32>,
-    /// How many metals the wires are drawn on, 4 to 6.
+    /// The highest metal on which nets are routed, 4 to 6; without effect beside tracks.
     pub metals: u32,
     /// The seed of the random words.
     pub seed: u32,
@@ -44,11 +46,12 @@ pub struct GenCommand {
     pub flow: FlowCommand,
 }
 
+// That each net has a track of its own.
 const TRACKS: Setting = Setting {
     name: "tracks",
     letter: None,
     value: "",
-    required: true,
+    required: false,
     form: Form::Flag,
 };
 
@@ -131,6 +134,13 @@ fn read_numbers(values: &Values) -> Result<Numbers, WordsError>
     })
 }
 
+// Without tracks the cells stand in one row.
+fn has_route(tracks: bool, rows: Option<u32>) -> bool
+    ensures { result ≡ has_route tracks rows }
+{
+    tracks || rows == Some(1)
+}
+
 // What `flow` is asked to do with a source and an encoding.
 fn flow_with(
     alloc: Global,
@@ -141,12 +151,17 @@ fn flow_with(
     ensures ok { IfOk result (λ flow. flow_on (Some source) (Some encoding) values.now ≡ Some flow) }
     ensures usage { IsErrOf result Usage → flow_on (Some source) (Some encoding) values.now ≡ None }
 {
+    let tracks = is_set(values, TRACKS);
     let numbers = read_numbers(values)?;
+    if !has_route(tracks, numbers.rows) {
+        return Err(WordsError::Usage);
+    }
     Ok(FlowCommand {
         source,
         library: text(alloc, values, LIBRARY)?,
         out: text(alloc, values, OUT)?,
         encoding,
+        tracks,
         rows: numbers.rows,
         metals: numbers.metals,
         seed: numbers.seed,

@@ -1,5 +1,5 @@
 -- What is given for SOURCE and for an option, where it is of the form that the table has.
-use Rattle.std.specs.Prelude.{ℕ, Bool, ◌&&◌, List, length, Option, None, Some, option_map, option_and_then, if◌then◌else◌, codes, nat_eq, nat_le}
+use Rattle.std.specs.Prelude.{ℕ, Bool, false, ◌&&◌, List, length, Option, None, Some, option_map, option_and_then, if◌then◌else◌, codes, nat_eq, nat_le}
 use Rattle.std.specs.List.{ends_with, list_all, list_any}
 use Rattle.clap.specs.Words.{first_of, found_of, rows_of}
 use Rattle.clap.specs.declared.parser.matches.ArgMatches.{ArgMatches}
@@ -32,6 +32,16 @@ source_of endings rows = option_and_then (with_ending endings) (first_of source 
 
 abbrev pub text_of : Setting → Given → Option (List ℕ)
 text_of s rows = option_and_then (text_by s.form) (first_of s.name rows)
+
+-- ---- flags
+
+-- the parser says by this word that a flag is given
+abbrev pub is_true : Option (List ℕ) → Bool
+is_true None = false
+is_true (Some text) = is_word text (codes "true")
+
+abbrev pub is_set : Setting → Given → Bool
+is_set s rows = is_true (first_of s.name rows)
 
 -- ---- numbers
 

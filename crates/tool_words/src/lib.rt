@@ -14,6 +14,7 @@ pub use command::{FromValues, read_asked};
 pub use table::{ENCODING, Entry, FANOUT, Form, LIBRARY, NODES, OUT, SEED, Setting};
 pub use usage::usage_line;
 pub use values::{
-    Encoding, Values, encoding_given, given, has_ending, number, number_if_given, source, text,
+    Encoding, Values, encoding_given, given, has_ending, is_set, number, number_if_given, source,
+    text,
 };
 pub use words::{Words, WordsError, is_same};

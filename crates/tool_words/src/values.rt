@@ -3,7 +3,7 @@ ghost use Rattle.std.specs.Prelude.{◌≡◌, Some, None, option_map, if◌then
 ghost use Rattle.std.specs.List.{list_any};
 ghost use Rattle.clap.specs.Words.{first_of};
 ghost use Rattle.tool_words.specs.declared.words.WordsError.TheVariants.{Usage};
-ghost use Rattle.tool_words.specs.Values.{has_ending, text_by, source_of, text_of, number_within, number_by, default_of, number_of, number_if_given, encoding_by, encoding_of};
+ghost use Rattle.tool_words.specs.Values.{has_ending, text_by, source_of, text_of, number_within, number_by, default_of, is_set, number_of, number_if_given, encoding_by, encoding_of};
 ghost use Rattle.tool_words.specs.View.{form_view, setting_view, texts_view};
 
 use crate::arguments::SOURCE;
@@ -107,6 +107,16 @@ pub fn text(alloc: Global, values: &Values, setting: Setting) -> Result<FileName
         return Err(WordsError::Usage);
     }
     Ok(FileName::from_bytes(alloc, text.as_bytes())?)
+}
+
+/// Whether a flag is given. Takes no memory.
+pub fn is_set(values: &Values, setting: Setting) -> bool
+    ensures { result ≡ is_set (setting_view setting) values.now }
+{
+    match given(values, setting.name) {
+        Some(text) => is_same(text.as_bytes(), b"true"),
+        None => false,
+    }
 }
 
 // The number that the text spells in decimal digits, within these bounds.
