@@ -21,6 +21,9 @@ use Rattle.cell_model.specs.Access.{count_to}
 use Rattle.ocp_rows.specs.Placement.{Placement}
 use Rattle.net_meaning.specs.Order.{IsInNetlistOrder}
 use Rattle.ocp_rows.specs.Tracks.{IsTrackRow}
+use Rattle.ap_io.specs.declared.figure.Figure.{Figure}
+use Rattle.flow_run.specs.Route.{Route, on_tracks, over_rows}
+use Rattle.flow_run.specs.GridLayout.{IsLaidBy}
 use Rattle.cell_pins.specs.Pins.{with_supply}
 use Rattle.loon_fanout.specs.Nets.{HasFewInputs}
 use Rattle.flow_netlist.specs.Netlist.{IsDrivenAs}
@@ -103,6 +106,11 @@ module _ (n : AbstractNetlist) (l : Library) (m o : Machine) (a : IsAlike m o) w
   -- so one row in this order is such a row for both
   pub row_alike : (p : Placement) (buffers : ℕ) → IsTrackRow n l o p buffers → IsTrackRow n l m p buffers
   row_alike p buffers q = record { tracks = q.tracks; one_row = q.one_row; order = order_alike buffers q.order }
+
+  -- and what is laid out for the one is so for the other
+  pub route_alike : (route : Route) (f : Figure) (p : Placement) (buffers : ℕ) → IsLaidBy route f n l o p buffers → IsLaidBy route f n l m p buffers
+  route_alike on_tracks f p buffers q = row_alike p buffers q
+  route_alike (over_rows rows metals) f p buffers q = record { order = order_alike buffers q.order; grid = q.grid }
 
   -- few input pins read each class, since the same classes are left out
   pub inputs_alike : (limit : ℕ) → HasFewInputs n l o limit → HasFewInputs n l m limit

@@ -37,14 +37,15 @@ use Rattle.tool_drive.specs.Refusals.{OfFile}
 use Rattle.tool_drive.specs.Table.{status_of, Follows, IsComplete}
 use Rattle.flow_run.specs.Origin.{Origin, equations, states, is_fsm, IsOf, IsSourceFor, refusal_by}
 use Rattle.flow_run.specs.Flow.{flow_plan, flow_answers, IsWithinNodes, IsNoSource, no_list, no_text, over_size, no_source, no_cell, unread, uncovered, over_budget}
-use Rattle.flow_run.specs.Causes.{Stand, IsDrawn}
+use Rattle.flow_run.specs.Causes.{Stand, IsDrawn, Ends}
 use Rattle.flow_run.specs.Drawn.{layout_name}
+use Rattle.flow_run.specs.Route.{route_of}
 use Rattle.flow_run.specs.RightLayout.{IsRightLayout}
 use Rattle.flow_run.specs.Laws.{WhatIsReadIsNeverRefused}
 use Rattle.flow_run.specs.Generated.{IsFitting, circuit_of, circuit_text, IsUnwritten, IsWritten, unwritten, laid, with_source, IsGenerated, IsGenFree, CircuitsAreNeverRefused, RunsHaveHeadlines, FreeRunsEnd}
 use Rattle.flow_run.proofs.SameText.{right_same}
 use Rattle.flow_run.proofs.Netlists.{covers_alike}
-use Rattle.flow_run.proofs.Rows.{headline_of}
+use Rattle.flow_run.proofs.Rows.{headline_of, ends_accepted, ends_memory, ends_stuck}
 use Rattle.flow_run.proofs.Standing.{reads}
 
 -- ---- names of files
@@ -122,10 +123,10 @@ module _ (again : CircuitsAreReadAgain) (lists : NeverBothLists) (never : WhatIs
   circuits_never c catal cells l s fit library covered within (unread (no_list fault refused is)) = lists catal library.names fault library.uses refused
   circuits_never c catal cells l s fit library covered within (unread (no_source names uses h)) = no_source_never c s fit h
   circuits_never c catal cells l s fit library covered within (unread (no_cell o m names e machine uses refused is)) =
-      libraries true catal cells l e library (bad_cell names uses refused)
+      libraries c.flow.tracks catal cells l e library (bad_cell names uses refused)
   circuits_never c catal cells l s fit library covered within (uncovered o m own kind read missing is) =
       never c.flow (circuit_text c) catal cells o m own s read
-      (((cover true true catal cells l own library read.library).machines m).0
+      (((cover c.flow.tracks c.flow.tracks catal cells l own library read.library).machines m).0
       (covers_alike l (circuit_of c) m ((fits again c fit).alike m (source_read c fit (circuit_text c) o m read.machine).1) covered))
       (within_read c fit o m read.machine within) (uncovered o m own kind read missing is)
   circuits_never c catal cells l s fit library covered within (over_budget o m own read too b) =
@@ -168,8 +169,8 @@ module _ (again : CircuitsAreReadAgain) (checked : CircuitsAreChecked) (runs : A
           written = d.written;
           right = right_same d.l k d.m (again_read.alike d.m said) (weights text d.m k said itself) (inner text d.m k said itself)
               (dags text d.m k said itself) (counts text d.m k said itself) runs both (checked c.flow.seed c.size fit.least fit.most).ordered
-              said.machine.checked.ordered d.bytes c.flow.fanout report
-              (subst (λ (o : Origin). IsRightLayout d.bytes o d.m d.l c.flow.fanout report) read.0 d.right);
+              said.machine.checked.ordered d.bytes c.flow.fanout (route_of c.flow) report
+              (subst (λ (o : Origin). IsRightLayout d.bytes o d.m d.l c.flow.fanout (route_of c.flow) report) read.0 d.right);
         };
         source = refl;
         circuit = refl;
@@ -209,12 +210,13 @@ module _ (written : CircuitsCanBeWritten) (never : CircuitsAreNeverRefused) wher
   }
 
   answered : (c : GenCommand) → IsFitting c → (before now : Outside) (free : IsGenFree c before now) (s : Status) (r : Result Product Refusal)
-      → flow_answers c.flow (inputs (circuit_text c ∷ free.catal ∷ []) free.cells) r → s ≡ status_of r → (s ≡ status.Accepted) ⊎ (s ≡ status.Memory)
-  answered c fit before now free s (Ok p) h e = inl e
-  answered c fit before now free s (Err r) h e = absurd (never c free.catal free.cells free.l r.status fit free.library free.covered free.within h.1)
+      → flow_answers c.flow (inputs (circuit_text c ∷ free.catal ∷ []) free.cells) r → s ≡ status_of r → Ends c.flow.tracks s
+  answered c fit before now free s (Ok p) h e = ends_accepted c.flow.tracks s e
+  answered c fit before now free s (Err r) (inl h) e = absurd (never c free.catal free.cells free.l r.status fit free.library free.covered free.within h.1)
+  answered c fit before now free s (Err r) (inr h) e = ends_stuck c.flow.tracks s h.no_tracks h.shown.net h.shown.terminal (e ∙ h.shown.status)
 
   laid_ends : (c : GenCommand) → IsFitting c → (before mid now : Outside) (s : Status) → IsWritten c before mid → IsComplete (flow_plan c.flow) (flow_answers c.flow) mid now s
-      → IsGenFree c before now → (s ≡ status.Accepted) ⊎ (s ≡ status.Memory)
+      → IsGenFree c before now → Ends c.flow.tracks s
   laid_ends c fit before mid now s w complete free =
       let files = with_source free.files c in
       let told : mid.files ≡ Some files = w.files ∙ ap (option_map (λ f. insert f c.flow.source (circuit_text c))) free.told in
@@ -226,11 +228,11 @@ module _ (written : CircuitsCanBeWritten) (never : CircuitsAreNeverRefused) wher
       subst (λ (r : Reading Inputs). Follows A mid now r s) (reads files c.flow (circuit_text c) free.catal free.cells (stood c fit before now free))
       (all (failed_before before mid now w.counts free.ran)) in
       elim (follows (λ h. free.printed (subst (λ (n : ℕ). Rose n now.faults) w.faults h)))
-      [ inl x ↦ answered c fit before now free s x.0 x.1 x.2 | inr m ↦ inr m ]
+      [ inl x ↦ answered c fit before now free s x.0 x.1 x.2 | inr m ↦ ends_memory c.flow.tracks s m ]
 
   pub run_ends : FreeRunsEnd
   run_ends c before now s fit (laid mid w caused complete) free = laid_ends c fit before mid now s w complete free
-  run_ends c before now status.Memory fit (unwritten u) free = inr refl
+  run_ends c before now status.Memory fit (unwritten u) free = ends_memory c.flow.tracks status.Memory refl
   run_ends c before now (status.File WriteFault name) fit (unwritten u) free = absurd (free.ran.writes u.1)
   run_ends c before now (status.File Missing name) fit (unwritten u) free = absurd u
   run_ends c before now (status.File ReadFault name) fit (unwritten u) free = absurd u

@@ -14,7 +14,12 @@ use Rattle.net_core.specs.Netlist.{Netlist}
 use Rattle.net_meaning.specs.Netlist.{AbstractNetlist as Seen}
 use Rattle.net_right.specs.View.{IsSeenAs, member_of}
 use Rattle.net_right.specs.Laws.{RightIsWellFormed}
-use Rattle.ocp_rows.specs.Placement.{net_count}
+use Rattle.ocp_rows.specs.Placement.{Placement, net_count}
+use Rattle.ocp_rows.specs.Length.{half_perimeter}
+use Rattle.net_meaning.specs.Well.{IsWell}
+use Rattle.net_meaning.specs.Agreement.{Agrees}
+use Rattle.net_meaning.specs.Order.{IsInNetlistOrder}
+use Rattle.flow_netlist.specs.Netlist.{IsDrivenAs}
 use Rattle.ocp_place.specs.Law.{row_of, RightMayBeDrawn}
 use Rattle.ocp_place.specs.Drawable.{IsDrawableIn}
 use Rattle.route_draw.specs.Drawn.{IsDrawnInTracks}
@@ -37,6 +42,9 @@ use Rattle.syf_run.specs.Laws.{EncodedCanBeDeclared}
 use Rattle.flow_words.specs.declared.words.FlowCommand.{FlowCommand}
 use Rattle.flow_run.specs.Origin.{Origin, equations, states, is_fsm, IsOf, IsSourceFor}
 use Rattle.flow_run.specs.Report.{report_by, report_of}
+use Rattle.flow_run.specs.States.{AgreesWith}
+use Rattle.flow_run.specs.Lean.{IsLeanBy}
+use Rattle.flow_run.specs.Route.{on_tracks}
 use Rattle.flow_run.specs.RightLayout.{IsRightLayout}
 use Rattle.flow_run.specs.Mapped.{IsMappedFor}
 use Rattle.flow_run.specs.Drawn.{DoesAsOrigin, MayBeDrawn, IsLengthOf}
@@ -45,7 +53,7 @@ use Rattle.loon_drive.specs.Driven.{most_sinks}
 use Rattle.flow_netlist.specs.Laws.{DrivenIsDrawable, DrivenIsGood}
 use Rattle.flow_run.proofs.Alike.{well_alike, agrees_alike, order_alike, inputs_alike, driven_alike}
 use Rattle.flow_run.proofs.Fewer.{lean_by}
-use Rattle.flow_run.proofs.States.{by_states}
+use Rattle.flow_run.proofs.States.{by_states as does_by}
 
 -- what is read of a source can be declared, is checked, and does what it does
 
@@ -96,9 +104,9 @@ declared_alike m o a d = record {
 -- what is read and mapped may be drawn
 pub may_be_drawn : LibraryPasses → LibraryNeedsNoTracks → SourceCanBeDeclared → EncodedCanBeDeclared → DrivenIsDrawable
     → (c : FlowCommand) (source list : List ℕ) (cells : List (List ℕ)) (o : Origin) (m : Machine) (l : Library) (k : Netlist) (delay nodes : ℕ)
-    → AreRead c source list cells o m l → IsMappedFor l m c.nodes c.fanout k delay nodes → MayBeDrawn l o m c.fanout k delay
+    → AreRead c source list cells o m l → IsMappedFor l m c.nodes c.fanout k delay nodes → MayBeDrawn c.tracks l o m c.fanout k delay
 may_be_drawn passes plain texts machines drawable c source list cells o m l k delay nodes read h =
-    let library = plain true list cells l read.library in
+    let library = plain c.tracks list cells l read.library in
     let declared = declared_alike m h.o h.made.optimised.alike (source_declared texts machines c source o m read.machine) in
     let given = read.small in
     let made = h.made.optimised.small.size in
@@ -110,61 +118,94 @@ may_be_drawn passes plain texts machines drawable c source list cells o m l k de
       netlist = h.netlist;
       checked = checked_as (is_fsm c) c source o m read.machine;
       ordered = h.ordered;
-      passed = passes true list cells l read.library;
+      passed = passes c.tracks list cells l read.library;
       small = read.small;
       soon = drawable list cells l h.o c.fanout k delay library h.ordered declared small h.netlist;
     }
 
-pub drawable : RightMayBeDrawn → LibrariesHaveTables → (l : Library) (o : Origin) (m : Machine) (fanout : ℕ) (n : Netlist) (delay : ℕ)
-    → HasPassed false l → MayBeDrawn l o m fanout n delay → IsDrawableIn l n
-drawable may tables l o m fanout n delay passed h =
+pub drawable : RightMayBeDrawn → LibrariesHaveTables → (tracks : Bool) (l : Library) (o : Origin) (m : Machine) (fanout : ℕ) (n : Netlist) (delay : ℕ)
+    → HasPassed false l → MayBeDrawn tracks l o m fanout n delay → IsDrawableIn l n
+drawable may tables tracks l o m fanout n delay passed h =
     let t = tables l passed in
     may l n h.o false t.table passed t.listed t.sound h.netlist.sound h.ordered h.netlist.right h.soon.pins
 
--- the numbers of a netlist in memory are those of the netlist that it is seen as
-report_same : (o : Origin) (m : Machine) (nodes delay : ℕ) (l : Library) (n : Netlist) (k : Seen) (long : ℕ) → IsSeenAs n k → IsLengthOf l n long
-    → report_by o m nodes (length n.instances) (n.count - 2) delay long 0 ≡ report_of o m nodes delay k l (row_of k) 0
-report_same o m nodes delay l n k long seen measured =
-    let cells : length k.instances ≡ length n.instances = ap (λ (x : Seen). length x.instances) seen.is ∙ length-map n.instances member_of in
-    let nets : net_count k ≡ n.count - 2 = ap (λ (x : Seen). net_count x) seen.is in
-    ap (λ (a : ℕ). report_by o m nodes a (n.count - 2) delay long 0) (sym cells)
-    ∙ ap (λ (a : ℕ). report_by o m nodes (length k.instances) a delay long 0) (sym nets)
-    ∙ ap (λ (a : ℕ). report_by o m nodes (length k.instances) (net_count k) delay a 0) (measured k seen)
+-- ---- what every layout says of its netlist
 
-pub right_layout : RightIsWellFormed → RightDrawingsAreRight → DrawingCanBeWritten → WrittenIsReadAgain → AlikeRun → AlikeBothWays → DrivenIsGood
-    → (l : Library) (o : Origin) (m : Machine) (fanout : ℕ) (n : Netlist) (delay : ℕ) (f : Figure) (long nodes : ℕ) (report : List ℕ)
-    → HasPassed false l → IsDrawableIn l n → MayBeDrawn l o m fanout n delay → IsDrawnInTracks l n f → IsLengthOf l n long → IsGreatestDcount m nodes
-    → report ≡ report_by o m nodes (length n.instances) (n.count - 2) delay long 0 → IsRightLayout (text_of f) o m l fanout report
-right_layout well extracted written again runs back good l o m fanout n delay f long nodes report passed given h drawn measured counted reported =
+-- the netlist in memory, as it is seen, is right for the machine
+pub record IsRightFor (l : Library) (o : Origin) (m : Machine) (fanout : ℕ) (n : Netlist) (delay : ℕ) (k : Seen) : Type 0 where
+  pub seen : IsSeenAs n k
+  pub named : n.name ≡ m.name
+  pub well : IsWell k l m
+  pub agrees : Agrees k l m
+  pub by_states : AgreesWith o k l m
+  pub many_buffers : ℕ
+  pub order : IsInNetlistOrder k l m many_buffers
+  pub lean : IsLeanBy k l m fanout
+  pub driven : IsDrivenAs k l m delay
+
+pub right_for : RightIsWellFormed → AlikeRun → AlikeBothWays → DrivenIsGood → (tracks : Bool) (l : Library) (o : Origin) (m : Machine) (fanout : ℕ) (n : Netlist)
+    (delay : ℕ) → HasPassed false l → (h : MayBeDrawn tracks l o m fanout n delay) → IsRightFor l o m fanout n delay h.netlist.right.sourced.netlist
+right_for well runs back good tracks l o m fanout n delay passed h =
     let right = h.netlist.right in
     let k = right.sourced.netlist in
-    let p = row_of k in
     let a = h.optimised.alike in
     let both = well n l h.o h.ordered right in
     let is_well = well_alike k l m h.o a both.0 in
     let agrees = agrees_alike k l m h.o a runs back h.checked.ordered h.ordered.ordered both.1 in
     let is_good = good l h.o fanout n delay k passed h.ordered h.netlist right.seen in
     let order = is_good.order in
+    record {
+      seen = right.seen;
+      named = right.name ∙ a.name;
+      well = is_well;
+      agrees = agrees;
+      by_states = does_by o k l m is_well h.checked.ordered agrees h.origin;
+      many_buffers = order.0;
+      order = order_alike k l m h.o a order.0 order.1;
+      lean = lean_by k l m h.o fanout h.optimised is_good.lean (inputs_alike k l m h.o a (most_sinks fanout) is_good.inputs) is_good.buffers;
+      driven = driven_alike k l m h.o a delay is_good.driven;
+    }
+
+-- the numbers of a netlist in memory are those of the netlist that it is seen as
+pub report_same : (o : Origin) (m : Machine) (nodes delay : ℕ) (l : Library) (n : Netlist) (k : Seen) (p : Placement) (long : ℕ) → IsSeenAs n k
+    → long ≡ half_perimeter k l p → report_by o m nodes (length n.instances) (n.count - 2) delay long 0 ≡ report_of o m nodes delay k l p 0
+report_same o m nodes delay l n k p long seen measured =
+    let cells : length k.instances ≡ length n.instances = ap (λ (x : Seen). length x.instances) seen.is ∙ length-map n.instances member_of in
+    let nets : net_count k ≡ n.count - 2 = ap (λ (x : Seen). net_count x) seen.is in
+    ap (λ (a : ℕ). report_by o m nodes a (n.count - 2) delay long 0) (sym cells)
+    ∙ ap (λ (a : ℕ). report_by o m nodes (length k.instances) a delay long 0) (sym nets)
+    ∙ ap (λ (a : ℕ). report_by o m nodes (length k.instances) (net_count k) delay a 0) measured
+
+-- ---- with tracks
+
+pub right_layout : RightIsWellFormed → RightDrawingsAreRight → DrawingCanBeWritten → WrittenIsReadAgain → AlikeRun → AlikeBothWays → DrivenIsGood
+    → (l : Library) (o : Origin) (m : Machine) (fanout : ℕ) (n : Netlist) (delay : ℕ) (f : Figure) (long nodes : ℕ) (report : List ℕ)
+    → HasPassed false l → IsDrawableIn l n → MayBeDrawn true l o m fanout n delay → IsDrawnInTracks l n f → IsLengthOf l n long → IsGreatestDcount m nodes
+    → report ≡ report_by o m nodes (length n.instances) (n.count - 2) delay long 0 → IsRightLayout (text_of f) o m l fanout on_tracks report
+right_layout well extracted written again runs back good l o m fanout n delay f long nodes report passed given h drawn measured counted reported =
+    let right = h.netlist.right in
+    let k = right.sourced.netlist in
+    let r = right_for well runs back good true l o m fanout n delay passed h in
     let ports = h.soon.ports in
     let fits = written l n f passed given h.soon.named h.soon.short h.soon.few (omega (arith, ports)) drawn in
     record {
       figure = f;
       netlist = k;
-      placement = p;
+      placement = row_of k;
       file = again f fits.0 fits.1;
-      named = drawn.named ∙ ap (λ (name : List ℕ). Some (scalar name)) (right.name ∙ a.name);
+      named = drawn.named ∙ ap (λ (name : List ℕ). Some (scalar name)) r.named;
       extracts = extracted l n h.o k f passed given h.ordered right right.seen drawn;
-      well = is_well;
-      agrees = agrees;
-      by_states = by_states o k l m is_well h.checked.ordered agrees h.origin;
+      well = r.well;
+      agrees = r.agrees;
+      by_states = r.by_states;
       lawful = drawn.lawful;
       is_placed = drawn.placed k right.seen;
-      many_buffers = order.0;
-      in_order = record { tracks = refl; one_row = refl; order = order_alike k l m h.o a order.0 order.1 };
-      lean = lean_by k l m h.o fanout h.optimised is_good.lean (inputs_alike k l m h.o a (most_sinks fanout) is_good.inputs) is_good.buffers;
+      many_buffers = r.many_buffers;
+      in_order = record { tracks = refl; one_row = refl; order = r.order };
+      lean = r.lean;
       delay = delay;
-      driven = driven_alike k l m h.o a delay is_good.driven;
+      driven = r.driven;
       nodes = nodes;
       counted = counted;
-      reported = reported ∙ report_same o m nodes delay l n k long right.seen measured;
+      reported = reported ∙ report_same o m nodes delay l n k (row_of k) long right.seen (measured k right.seen);
     }

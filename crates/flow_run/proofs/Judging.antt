@@ -1,5 +1,5 @@
 -- What stands in the files of a library refuses it by a status of judging, never for a file.
-use Rattle.std.proofs.Common.{◌≡◌, ℕ, Bool, true, List, None, sym, subst, refl}
+use Rattle.std.proofs.Common.{◌≡◌, ℕ, Bool, List, None, sym, subst, refl}
 use Rattle.vlsi_base.specs.declared.fault.ReadError.{ReadError}
 use Rattle.vlsi_base.specs.declared.fault.ReadError.TheVariants as reading
 use Rattle.vlsi_base.specs.declared.fault.LimitKind.TheVariants.{Width}
@@ -45,6 +45,6 @@ fair_list catal.Memory P p = refl
 fair_list (catal.BadLine line) P p = p
 fair_list (catal.Limit l) P p = p
 
-pub fair_library : (list : List ℕ) (cells : List (List ℕ)) (e : LibError) (P : Type 0) → IsRefusedLibrary true list cells e → P → IsFairLibrary e P
-fair_library list cells e P (bad_list fault r is) p = same e (refused fault) P is (fair_list fault P p)
-fair_library list cells e P (bad_cell names uses first) p = fair_cell true first.source e P first.refused p
+pub fair_library : (tracks : Bool) (list : List ℕ) (cells : List (List ℕ)) (e : LibError) (P : Type 0) → IsRefusedLibrary tracks list cells e → P → IsFairLibrary e P
+fair_library tracks list cells e P (bad_list fault r is) p = same e (refused fault) P is (fair_list fault P p)
+fair_library tracks list cells e P (bad_cell names uses first) p = fair_cell tracks first.source e P first.refused p

@@ -7,6 +7,7 @@ pub mod Outputs
 pub mod Fewer
 pub mod States
 pub mod Drawing
+pub mod RowDrawing
 pub mod SameText
 pub mod Lines
 pub mod Standing

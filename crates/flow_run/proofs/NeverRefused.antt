@@ -78,16 +78,16 @@ module _ (budgets : MachinesAreWithinTheSame) (one : EncodedIsOne) where
   within_same true c source equations x m k h g budget within = absurd h
 
 module _ (one : EncodedIsOne) (cover : LibrariesCoverTheSame) (lacks : CoveredLacksNothing) where
-  lacks_nothing : (b : Bool) (c : FlowCommand) (source catal : List ℕ) (cells : List (List ℕ)) (l own : Library) → IsLibraryOf true catal cells l
-      → IsLibraryOf true catal cells own → (o x : Origin) (m k : Machine) → IsOf b c source o m → IsOf b c source x k → Covers l m → (kind : Kind)
+  lacks_nothing : (b : Bool) (c : FlowCommand) (source catal : List ℕ) (cells : List (List ℕ)) (l own : Library) → IsLibraryOf c.tracks catal cells l
+      → IsLibraryOf c.tracks catal cells own → (o x : Origin) (m k : Machine) → IsOf b c source o m → IsOf b c source x k → Covers l m → (kind : Kind)
       → IsFirstMissing own.cells kind (needed (has_registers k)) → ⊥
   lacks_nothing false c source catal cells l own il io equations equations m k h g covered kind missing =
-      lacks true true catal cells l own il io source m k h g covered kind missing
+      lacks c.tracks c.tracks catal cells l own il io source m k h g covered kind missing
   lacks_nothing false c source catal cells l own il io equations (states f i) m k h g covered kind missing = absurd g
   lacks_nothing false c source catal cells l own il io (states f i) x m k h g covered kind missing = absurd h
   lacks_nothing true c source catal cells l own il io (states f i) (states g j) m k h q covered kind missing =
       let same = one source (style_of c.encoding c.seed) f g i j m k h q in
-      let there_too : Covers own m = ((cover true true catal cells l own il io).machines m).0 covered in
+      let there_too : Covers own m = ((cover c.tracks c.tracks catal cells l own il io).machines m).0 covered in
       let other : Covers own k = subst (λ (n : Machine). Covers own n) same there_too in
       none_missing own.cells kind (needed (has_registers k)) other missing
   lacks_nothing true c source catal cells l own il io (states f i) equations m k h g covered kind missing = absurd g
@@ -110,7 +110,7 @@ module _ (lists : NeverBothLists) (texts : NeverBoth) (machines : NeverBothState
   unread_never c source catal cells o m l s read (no_list fault refused is) = lists catal read.library.names fault read.library.uses refused
   unread_never c source catal cells o m l s read (no_source names uses h) = source_never c source catal cells o m l s read h
   unread_never c source catal cells o m l s read (no_cell x k names e machine uses refused is) =
-      libraries true catal cells l e read.library (bad_cell names uses refused)
+      libraries c.tracks catal cells l e read.library (bad_cell names uses refused)
 
   pub never_refused : WhatIsReadIsNeverRefused
   never_refused c source catal cells o m l s read covered within (over_budget x k own others too b) =

@@ -1,5 +1,5 @@
 -- From the refusals of readers and of mapping to the tool's.
-use Rattle.std.proofs.Common.{◌≡◌, ℕ, ◌<◌, true, List, None, Err, sym, subst, refl}
+use Rattle.std.proofs.Common.{◌≡◌, ℕ, ◌<◌, false, List, None, Err, inl, inr, sym, subst, refl}
 use Rattle.vlsi_base.specs.declared.fault.ReadError.{ReadError}
 use Rattle.machine_core.specs.Machine.{Machine}
 use Rattle.machine_core.specs.Size.{machine_size}
@@ -19,10 +19,13 @@ use Rattle.tool_drive.specs.declared.size.TheConstants.{MOST_SIZE}
 use Rattle.flow_words.specs.declared.words.FlowCommand.{FlowCommand}
 use Rattle.tool_drive.specs.declared.status.Status.{Status}
 use Rattle.tool_drive.specs.declared.status.Status.TheVariants as status
+use Rattle.tool_drive.specs.declared.tool.Refusal.{Refusal}
 use Rattle.tool_drive.specs.Table.{IsJudged, IsFair, refusal}
-use Rattle.tool_drive.specs.Refusals.{MemoryOr, OfFile, of_file, memory_then, judged as judged_by}
+use Rattle.tool_drive.specs.Refusals.{MemoryOr, OfFile, of_file, memory_then, fair_then, judged as judged_by}
 use Rattle.flow_run.specs.Origin.{Origin, IsSourceFor, IsSourceRefusal}
-use Rattle.flow_run.specs.Flow.{IsSourceOf, AreRead, IsNoSource, no_list, no_text, over_size, IsUnread, no_source, no_cell, IsFlowRefusal, unread, uncovered, over_budget, LaysOut}
+use Rattle.flow_run.specs.Flow.{IsSourceOf, AreRead, IsNoSource, no_list, no_text, over_size, IsUnread, no_source, no_cell, IsFlowRefusal, unread, uncovered, over_budget, IsWithinNodes, LaysOut}
+use Rattle.flow_run.specs.Route.{many_rows}
+use Rattle.flow_run.specs.Drawn.{IsStuckAs}
 use Rattle.flow_run.specs.Mapped.{IsMissingIn}
 use Rattle.flow_run.proofs.Judging.{fair_list, fair_library}
 
@@ -49,17 +52,17 @@ pub by_size : (c : FlowCommand) (source : List ℕ) (o : Origin) (m : Machine) (
 by_size c source o m s machine big is = subst (λ (t : Status). MemoryOr t (IsNoSource c source t)) (sym is) (over_size o m machine big refl)
 
 cell_at : (c : FlowCommand) (source list : List ℕ) (cells names : List (List ℕ)) (o : Origin) (m : Machine) (e : LibError) → IsSourceOf c source o m → IsCatal list names
-    → IsFirstRefused (IsCell true) (IsCellRefusal true) (sources names cells) e → IsUnread c source list cells (status_of e)
+    → IsFirstRefused (IsCell c.tracks) (IsCellRefusal c.tracks) (sources names cells) e → IsUnread c source list cells (status_of e)
 cell_at c source list cells names o m e h uses first = no_cell o m names e h uses first refl
 
 pub by_cell : (c : FlowCommand) (source list : List ℕ) (cells names : List (List ℕ)) (o : Origin) (m : Machine) (e : LibError) → IsSourceOf c source o m → IsCatal list names
-    → OrMemory (IsFirstRefused (IsCell true) (IsCellRefusal true) (sources names cells)) e → MemoryOr (status_of e) (IsUnread c source list cells (status_of e))
+    → OrMemory (IsFirstRefused (IsCell c.tracks) (IsCellRefusal c.tracks) (sources names cells)) e → MemoryOr (status_of e) (IsUnread c source list cells (status_of e))
 by_cell c source list cells names o m errors.Memory h uses k = tt
 by_cell c source list cells names o m (errors.Limit l) h uses k = cell_at c source list cells names o m (errors.Limit l) h uses k
 by_cell c source list cells names o m (errors.BadCatal line) h uses k = cell_at c source list cells names o m (errors.BadCatal line) h uses k
 by_cell c source list cells names o m (errors.BadCell cell cause) h uses k = cell_at c source list cells names o m (errors.BadCell cell cause) h uses k
-by_cell c source list cells names o m (errors.Missing name) h uses k = absurd (fair_library list cells (errors.Missing name) (Unit {0}) (bad_cell names uses k) tt)
-by_cell c source list cells names o m (errors.ReadFault name) h uses k = absurd (fair_library list cells (errors.ReadFault name) (Unit {0}) (bad_cell names uses k) tt)
+by_cell c source list cells names o m (errors.Missing name) h uses k = absurd (fair_library c.tracks list cells (errors.Missing name) (Unit {0}) (bad_cell names uses k) tt)
+by_cell c source list cells names o m (errors.ReadFault name) h uses k = absurd (fair_library c.tracks list cells (errors.ReadFault name) (Unit {0}) (bad_cell names uses k) tt)
 
 -- ---- each refusal has a status of judging
 
@@ -76,7 +79,7 @@ fair : (c : FlowCommand) (source list : List ℕ) (cells : List (List ℕ)) (s :
 fair c source list cells s P (unread (no_list fault r is)) p = subst (λ (t : Status). IsFair t None P) (sym is) (fair_list fault P p)
 fair c source list cells s P (unread (no_source names uses r)) p = fair_source c source s P r p
 fair c source list cells s P (unread (no_cell o m names e h uses first is)) p =
-    subst (λ (t : Status). IsFair t None P) (sym is) (fair_library list cells e P (bad_cell names uses first) p)
+    subst (λ (t : Status). IsFair t None P) (sym is) (fair_library c.tracks list cells e P (bad_cell names uses first) p)
 fair c source list cells s P (uncovered o m l k read missing is) p = subst (λ (t : Status). IsFair t None P) (sym is) p
 fair c source list cells s P (over_budget o m l read covered b) p = subst (λ (t : Status). IsFair t None P) (sym b.is) p
 
@@ -86,7 +89,7 @@ judged : (c : FlowCommand) (source list : List ℕ) (cells : List (List ℕ)) (s
     → IsJudged (LaysOut c source list cells) (Err (refusal s None))
 judged c source list cells s h = judged_by (LaysOut c source list cells) (λ t. IsFlowRefusal c source list cells t) told s h where
   told : (t : Status) → IsFlowRefusal c source list cells t → IsFair t None (LaysOut c source list cells (Err (refusal t None)))
-  told t k = fair c source list cells t (LaysOut c source list cells (Err (refusal t None))) k (refl, k)
+  told t k = fair c source list cells t (LaysOut c source list cells (Err (refusal t None))) k (inl (refl, k))
 
 pub by_unread : (c : FlowCommand) (source list : List ℕ) (cells : List (List ℕ)) (s : Status) → MemoryOr s (IsUnread c source list cells s)
     → IsJudged (LaysOut c source list cells) (Err (refusal s None))
@@ -97,10 +100,18 @@ pub by_kinds : (c : FlowCommand) (source list : List ℕ) (cells : List (List �
     → AreRead c source list cells o m l
     → IsMissingIn l m s → IsJudged (LaysOut c source list cells) (Err (refusal s None))
 by_kinds c source list cells o m l s read h =
-    subst (λ (t : Status). IsJudged (LaysOut c source list cells) (Err (refusal t None))) (sym h.is) (refl, uncovered o m l h.kind read h.first refl)
+    subst (λ (t : Status). IsJudged (LaysOut c source list cells) (Err (refusal t None))) (sym h.is) (inl (refl, uncovered o m l h.kind read h.first refl))
 
 pub by_budget : (c : FlowCommand) (source list : List ℕ) (cells : List (List ℕ)) (o : Origin) (m : Machine) (l : Library) (s : Status)
     → AreRead c source list cells o m l
     → Covers l m → MemoryOr s (IsBudgetStatus m c.nodes s) → IsJudged (LaysOut c source list cells) (Err (refusal s None))
 by_budget c source list cells o m l s read covered h =
     judged c source list cells s (memory_then s (IsBudgetStatus m c.nodes s) (IsFlowRefusal c source list cells s) (λ b. over_budget o m l read covered b) h)
+
+-- a net that gets stuck is such an answer
+pub by_stuck : (c : FlowCommand) (source list : List ℕ) (cells : List (List ℕ)) (o : Origin) (m : Machine) (l : Library) (r : Refusal)
+    → AreRead c source list cells o m l → Covers l m → IsWithinNodes m c.nodes
+    → IsFair r.status r.part ((c.tracks ≡ false) × IsStuckAs c.out o m l c.fanout (many_rows c.rows) c.metals r) → IsJudged (LaysOut c source list cells) (Err r)
+by_stuck c source list cells o m l r read covered within h =
+    fair_then r.status r.part ((c.tracks ≡ false) × IsStuckAs c.out o m l c.fanout (many_rows c.rows) c.metals r) (LaysOut c source list cells (Err r))
+    (λ k. inr (record { no_tracks = k.0; o = o; m = m; l = l; read = read; covered = covered; within = within; shown = k.1 })) h

@@ -1,17 +1,18 @@
 -- The rows of `flow`: the headline, and when it has to come.
-use Rattle.std.proofs.Common.{◌≡◌, ◌⊎◌, inl, inr, ℕ, List, [], ◌∷◌, Option, None, Some, IfSome, Result, Ok, Err, get_or, subst}
+use Rattle.std.proofs.Common.{◌≡◌, ◌⊎◌, inl, inr, ℕ, Bool, true, false, ◌∙◌, List, [], ◌∷◌, Option, None, Some, IfSome, Result, Ok, Err, get_or, subst}
+use Rattle.vlsi_base.specs.declared.name.Terminal.{Terminal}
 use Rattle.vlsi_shelf.specs.Files.{Files}
 use Rattle.vlsi_shelf.specs.Shelf.{Writes}
 use Rattle.flow_words.specs.declared.words.FlowCommand.{FlowCommand}
 use Rattle.tool_drive.specs.declared.status.Status.{Status}
-use Rattle.tool_drive.specs.declared.status.Status.TheVariants.{Accepted, Memory}
+use Rattle.tool_drive.specs.declared.status.Status.TheVariants.{Accepted, Memory, NoPath}
 use Rattle.tool_drive.specs.declared.tool.Product.{Product}
 use Rattle.tool_drive.specs.declared.tool.Refusal.{Refusal}
 use Rattle.tool_drive.specs.Outside.{Outside, NothingFailed}
 use Rattle.tool_drive.specs.Plan.{Inputs, inputs, Reading, got, reading}
 use Rattle.tool_drive.specs.Table.{status_of, ComesTo, IsStored, Caused, Follows, IsComplete}
 use Rattle.flow_run.specs.Flow.{flow_plan, flow_answers, IsLaidOut}
-use Rattle.flow_run.specs.Causes.{IsDrawn, IsHeadline, IsFree}
+use Rattle.flow_run.specs.Causes.{IsDrawn, IsHeadline, IsFree, Ends}
 use Rattle.flow_run.specs.Laws.{WhatIsReadIsNeverRefused}
 use Rattle.flow_run.proofs.Standing.{stood, reads}
 
@@ -49,19 +50,32 @@ headline_of c before now s h is =
 
 -- ---- where nothing stands in the way
 
+pub ends_accepted : (tracks : Bool) (s : Status) → s ≡ Accepted → Ends tracks s
+ends_accepted true s h = inl h
+ends_accepted false s h = inl h
+
+pub ends_memory : (tracks : Bool) (s : Status) → s ≡ Memory → Ends tracks s
+ends_memory true s h = inr h
+ends_memory false s h = inr (inl h)
+
+pub ends_stuck : (tracks : Bool) (s : Status) → tracks ≡ false → (net : ℕ) (terminal : Terminal) → s ≡ NoPath net terminal → Ends tracks s
+ends_stuck true s no net terminal h = absurd (cc no)
+ends_stuck false s no net terminal h = inr (inr (net, terminal, h))
+
 pub laid_free : WhatIsReadIsNeverRefused → (c : FlowCommand) (before now : Outside) (s : Status) → IsComplete (flow_plan c) (flow_answers c) before now s → IsFree c before now
-    → (s ≡ Accepted) ⊎ (s ≡ Memory)
+    → Ends c.tracks s
 laid_free law c before now s complete free =
     let all : IfSome (Some free.files) (λ files. NothingFailed before now → Follows (flow_answers c) before now (reading files (flow_plan c)) s) =
     subst (λ (t : Option Files). IfSome t (λ files. NothingFailed before now → Follows (flow_answers c) before now (reading files (flow_plan c)) s)) free.told complete in
     let follows : Follows (flow_answers c) before now (got i) s =
     subst (λ (r : Reading Inputs). Follows (flow_answers c) before now r s) (reads free.files c free.source free.catal free.cells free.stood) (all free.read) in
-    elim (follows free.printed) [ inl x ↦ by x.0 x.1 x.2 | inr m ↦ inr m ]
+    elim (follows free.printed) [ inl x ↦ by x.0 x.1 x.2 | inr m ↦ ends_memory c.tracks s m ]
   where
     i : Inputs
     i = inputs (free.source ∷ free.catal ∷ []) free.cells
 
-    by : (r : Result Product Refusal) → flow_answers c i r → s ≡ status_of r → (s ≡ Accepted) ⊎ (s ≡ Memory)
-    by (Ok p) h e = inl e
-    by (Err r) h e =
+    by : (r : Result Product Refusal) → flow_answers c i r → s ≡ status_of r → Ends c.tracks s
+    by (Ok p) h e = ends_accepted c.tracks s e
+    by (Err r) (inr h) e = ends_stuck c.tracks s h.no_tracks h.shown.net h.shown.terminal (e ∙ h.shown.status)
+    by (Err r) (inl h) e =
         absurd (law c free.source free.catal free.cells free.o free.m free.l r.status free.are_read free.covered free.within h.1)

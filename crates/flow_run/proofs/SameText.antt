@@ -20,8 +20,9 @@ use Rattle.loon_drive.specs.Driven.{most_sinks}
 use Rattle.flow_run.specs.Origin.{equations}
 use Rattle.tool_drive.specs.Lines.{count_line}
 use Rattle.flow_run.specs.Report.{source_line, register_line, register_lines}
+use Rattle.flow_run.specs.Route.{Route}
 use Rattle.flow_run.specs.RightLayout.{IsRightLayout}
-use Rattle.flow_run.proofs.Alike.{well_alike, agrees_alike, row_alike, inputs_alike, driven_alike}
+use Rattle.flow_run.proofs.Alike.{well_alike, agrees_alike, route_alike, inputs_alike, driven_alike}
 
 -- the lines of registers go by their names
 lines_by : (k : ℕ) (rs qs : List Register) → map (λ (r : Register). r.name) rs ≡ map (λ (r : Register). r.name) qs → register_lines k rs ≡ register_lines k qs
@@ -52,9 +53,9 @@ module _ (l : Library) (k m : Machine) (a : IsAlike k m) (size : machine_size m 
     (dags : (each : List ℕ) → AllZip (IsDag m) (roots m) each → AllZip (IsDag k) (roots k) each)
     (counted : (nodes : ℕ) → IsGreatestDcount m nodes → IsGreatestDcount k nodes) where
   -- what is right for one machine is right for another of the same text
-  pub right_same : AlikeRun → AlikeBothWays → IsOrdered k → IsOrdered m → (bytes : List ℕ) (fanout : ℕ) (report : List ℕ)
-      → IsRightLayout bytes equations m l fanout report → IsRightLayout bytes equations k l fanout report
-  right_same runs both ordered other bytes fanout report r =
+  pub right_same : AlikeRun → AlikeBothWays → IsOrdered k → IsOrdered m → (bytes : List ℕ) (fanout : ℕ) (route : Route) (report : List ℕ)
+      → IsRightLayout bytes equations m l fanout route report → IsRightLayout bytes equations k l fanout route report
+  right_same runs both ordered other bytes fanout route report r =
       let n = r.netlist in
       let lean = r.lean in
       let gates : ℕ = count_by (λ i. begins_with_g i.name) n.instances in
@@ -72,7 +73,7 @@ module _ (l : Library) (k m : Machine) (a : IsAlike k m) (size : machine_size m 
         lawful = r.lawful;
         is_placed = r.is_placed;
         many_buffers = r.many_buffers;
-        in_order = row_alike n l k m a r.placement r.many_buffers r.in_order;
+        in_order = route_alike n l k m a route r.figure r.placement r.many_buffers r.in_order;
         lean = record {
           dags = lean.dags;
           each = dags lean.dags lean.each;

@@ -52,10 +52,10 @@ library_long c files most h e =
 -- ---- refusals
 
 of_library : (c : GenCommand) (files : Files) (catal : List ℕ) (cells : List (List ℕ)) → Holds files (catal_name c.flow.library) catal
-    → AreHad files (cell_files c.flow.library (cells_in catal)) cells → (e : LibError) (s : Status) → IsRefusedLibrary true catal cells e → s ≡ status_of e
+    → AreHad files (cell_files c.flow.library (cells_in catal)) cells → (e : LibError) (s : Status) → IsRefusedLibrary c.flow.tracks catal cells e → s ≡ status_of e
     → IsForLibrary c files s
 of_library c files catal cells h g e s r is = subst (λ (x : Status). IsForLibrary c files x) (sym is) (by e r) where
-  by : (e : LibError) → IsRefusedLibrary true catal cells e → IsForLibrary c files (status_of e)
+  by : (e : LibError) → IsRefusedLibrary c.flow.tracks catal cells e → IsForLibrary c files (status_of e)
   by errors.Memory r = tt
   by (errors.Missing name) r = tt
   by (errors.ReadFault name) r = tt
@@ -83,8 +83,11 @@ module _ (again : CircuitsAreReadAgain) (written : CircuitsCanBeWritten) where
       subst (λ (t : Option Files). ComesTo t (flow_plan c.flow) (flow_answers c.flow) (Err (refusal s part))) is comes in
       let stand = stood (with_source old c) c.flow h.first h.more h.first_read h.more_read in
       let same : get_or h.first 0 [] ≡ circuit_text c = held_same old c.flow.source (circuit_text c) (get_or h.first 0 []) stand.source_is in
-      refused_so c fit (with_source old c) (get_or h.first 1 []) h.more stand.catal_is stand.cells_are s
-      (subst (λ (source : List ℕ). IsFlowRefusal c.flow source (get_or h.first 1 []) h.more s) same h.answered.1)
+      elim h.answered [
+        inl refused ↦ refused_so c fit (with_source old c) (get_or h.first 1 []) h.more stand.catal_is stand.cells_are s
+            (subst (λ (source : List ℕ). IsFlowRefusal c.flow source (get_or h.first 1 []) h.more s) same refused.1)
+        | inr stuck ↦ subst (λ (x : Status). IsForLibrary c (with_source old c) x) (sym stuck.shown.status) tt
+      ]
 
   laid_so : (c : GenCommand) → IsFitting c → (old : Files) (mid now : Outside) → mid.files ≡ Some (with_source old c) → (s : Status)
       → Caused (flow_plan c.flow) (flow_answers c.flow) mid now s → IsForLibrary c (with_source old c) s

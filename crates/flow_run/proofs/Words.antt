@@ -6,7 +6,7 @@ use Rattle.tool_words.specs.Words.{is_word}
 use Rattle.tool_words.specs.declared.words.WordsError.{WordsError}
 use Rattle.tool_words.specs.declared.words.WordsError.TheVariants as words
 use Rattle.flow_words.specs.declared.words.GenCommand.{GenCommand}
-use Rattle.flow_words.specs.Words.{flow, flow_of, gen, gen_of}
+use Rattle.flow_words.specs.Words.{IsWithinBounds, FlowsAreWithinBounds, GensAreWithinBounds, flow, flow_of, gen, gen_of}
 use Rattle.flow_words.proofs.Generate.{gen_sound}
 use Rattle.tool_run.specs.declared.words.Command.{Command as ToolCommand}
 use Rattle.tool_run.specs.Tools.{command_of as tool_command_of}
@@ -23,10 +23,10 @@ use Rattle.flow_run.specs.declared.command.Command.{Command}
 use Rattle.flow_run.specs.declared.command.Command.TheVariants as command
 use Rattle.flow_run.specs.Commands.{command_of, word_of, as_flow, flow_in, as_gen, gen_in, as_tool, tool_in}
 use Rattle.flow_run.specs.Flow.{flow_plan, flow_answers}
-use Rattle.flow_run.specs.Causes.{IsHeadline, IsFree}
+use Rattle.flow_run.specs.Causes.{IsHeadline, IsFree, Ends}
 use Rattle.flow_run.specs.Laws.{WhatIsReadIsNeverRefused}
 use Rattle.flow_run.specs.Generated.{IsFitting, IsRun, unwritten, IsGenHeadline, IsSourceSpared, IsGenFree, RunsHaveHeadlines, SourcesAreSpared, FreeRunsEnd}
-use Rattle.flow_run.proofs.Rows.{if_some, headline_of, laid_free}
+use Rattle.flow_run.proofs.Rows.{ends_memory, if_some, headline_of, laid_free}
 
 line_is : (words : List (List ℕ)) (s : Status) → (s ≡ status.Usage → ⊥) → line_of_tool (tool_of words) s ≡ line_of words s
 line_is words status.Usage other = absurd (other refl)
@@ -65,9 +65,9 @@ headline_at words k before now s is h =
 
 pub free_at : WhatIsReadIsNeverRefused → (words : List (List ℕ)) (k : Command) (before now : Outside) (s : Status) → command_of words ≡ Some k
     → IfSome (as_flow (Some k)) (λ c. IsComplete (flow_plan c) (flow_answers c) before now s)
-    → IfSome (flow_in words) (λ c. IsFree c before now → (s ≡ status.Accepted) ⊎ (s ≡ status.Memory))
+    → IfSome (flow_in words) (λ c. IsFree c before now → Ends c.tracks s)
 free_at law words k before now s is h =
-    subst (λ (o : Option Command). IfSome (as_flow o) (λ c. IsFree c before now → (s ≡ status.Accepted) ⊎ (s ≡ status.Memory))) (sym is)
+    subst (λ (o : Option Command). IfSome (as_flow o) (λ c. IsFree c before now → Ends c.tracks s)) (sym is)
     (if_some (as_flow (Some k)) (λ c complete free. laid_free law c before now s complete free) h)
 
 -- ---- words that no command is read from
@@ -84,10 +84,10 @@ pub no_headline : (ws : List (List ℕ)) (e : WordsError) (before now : Outside)
 no_headline ws e before now s is = all_some (flow_in ws) (λ c accepted. absurd (not_accepted e s is accepted))
 
 pub none_free : (ws : List (List ℕ)) (e : WordsError) (before now : Outside) (s : Status) → s ≡ status_of e → (IsErrOf {T = Command} (Err e) words.Usage → command_of ws ≡ None)
-    → IfSome (flow_in ws) (λ c. IsFree c before now → (s ≡ status.Accepted) ⊎ (s ≡ status.Memory))
+    → IfSome (flow_in ws) (λ c. IsFree c before now → Ends c.tracks s)
 none_free ws words.Usage before now s is none =
-    subst (λ (o : Option Command). IfSome (as_flow o) (λ c. IsFree c before now → (s ≡ status.Accepted) ⊎ (s ≡ status.Memory))) (sym (none refl)) tt
-none_free ws words.Memory before now s is none = all_some (flow_in ws) (λ c free. inr is)
+    subst (λ (o : Option Command). IfSome (as_flow o) (λ c. IsFree c before now → Ends c.tracks s)) (sym (none refl)) tt
+none_free ws words.Memory before now s is none = all_some (flow_in ws) (λ c free. ends_memory c.tracks s is)
 
 pub flow_unread : (ws : List (List ℕ)) (e : WordsError) (before now : Outside) (s : Status) → s ≡ status_of e → (IsErrOf {T = Command} (Err e) words.Usage → command_of ws ≡ None)
     → IfSome (flow_in ws) (λ c. IsComplete (flow_plan c) (flow_answers c) before now s)
@@ -112,9 +112,9 @@ answer_at ws k before now s is h = subst (λ (o : Option Command). IfSome (as_to
 
 -- ---- words that spell `gen`
 
-gen_fits : (ws : List (List ℕ)) (c : GenCommand) → command_of ws ≡ Some (command.Gen c) → IsFitting c
-gen_fits [] c h = absurd (cc h)
-gen_fits (word ∷ ws) c h = by (is_word flow.word word) (is_word gen.word word) h where
+gen_fits : GensAreWithinBounds → (ws : List (List ℕ)) (c : GenCommand) → command_of ws ≡ Some (command.Gen c) → IsFitting c
+gen_fits bounds [] c h = absurd (cc h)
+gen_fits bounds (word ∷ ws) c h = by (is_word flow.word word) (is_word gen.word word) h where
   other : {A : Type 0} (make : A → Command) (o : Option A) → ((a : A) → make a ≡ command.Gen c → ⊥) → option_map make o ≡ Some (command.Gen c) → IsFitting c
   other make None never e = absurd (cc e)
   other make (Some a) never e = absurd (never a (cc e))
@@ -124,7 +124,7 @@ gen_fits (word ∷ ws) c h = by (is_word flow.word word) (is_word gen.word word)
   made (Some x) f e =
       let same : x ≡ c = cc e in
       let s = gen_sound ws x f in
-      subst IsFitting same (record { least = s.least; most = s.most; source = s.source })
+      subst IsFitting same (record { least = s.least; most = s.most; source = s.source; bounds = bounds ws x f })
 
   by : (a b : Bool) → cond a (option_map command.Flow (flow_of ws)) (cond b (option_map command.Gen (gen_of ws)) (option_map command.Tool (tool_command_of (word ∷ ws)))) ≡ Some (command.Gen c)
       → IsFitting c
@@ -132,10 +132,35 @@ gen_fits (word ∷ ws) c h = by (is_word flow.word word) (is_word gen.word word)
   by false true e = made (gen_of ws) refl e
   by false false e = other command.Tool (tool_command_of (word ∷ ws)) (λ a f. cc f) e
 
-pub fitting : (ws : List (List ℕ)) (k : Command) → command_of ws ≡ Some k → IfSome (as_gen (Some k)) IsFitting
-fitting ws (command.Gen c) h = gen_fits ws c h
-fitting ws (command.Flow c) h = tt
-fitting ws (command.Tool k) h = tt
+pub fitting : GensAreWithinBounds → (ws : List (List ℕ)) (k : Command) → command_of ws ≡ Some k → IfSome (as_gen (Some k)) IsFitting
+fitting bounds ws (command.Gen c) h = gen_fits bounds ws c h
+fitting bounds ws (command.Flow c) h = tt
+fitting bounds ws (command.Tool k) h = tt
+
+-- and `flow`
+flow_fits : FlowsAreWithinBounds → (ws : List (List ℕ)) (c : FlowCommand) → command_of ws ≡ Some (command.Flow c) → IsWithinBounds c
+flow_fits bounds [] c h = absurd (cc h)
+flow_fits bounds (word ∷ ws) c h = by (is_word flow.word word) (is_word gen.word word) h where
+  other : {A : Type 0} (make : A → Command) (o : Option A) → ((a : A) → make a ≡ command.Flow c → ⊥) → option_map make o ≡ Some (command.Flow c) → IsWithinBounds c
+  other make None never e = absurd (cc e)
+  other make (Some a) never e = absurd (never a (cc e))
+
+  made : (o : Option FlowCommand) → flow_of ws ≡ o → option_map command.Flow o ≡ Some (command.Flow c) → IsWithinBounds c
+  made None f e = absurd (cc e)
+  made (Some x) f e =
+      let same : x ≡ c = cc e in
+      subst IsWithinBounds same (bounds ws x f)
+
+  by : (a b : Bool) → cond a (option_map command.Flow (flow_of ws)) (cond b (option_map command.Gen (gen_of ws)) (option_map command.Tool (tool_command_of (word ∷ ws)))) ≡ Some (command.Flow c)
+      → IsWithinBounds c
+  by true b e = made (flow_of ws) refl e
+  by false true e = other command.Gen (gen_of ws) (λ a f. cc f) e
+  by false false e = other command.Tool (tool_command_of (word ∷ ws)) (λ a f. cc f) e
+
+pub within_bounds : FlowsAreWithinBounds → (ws : List (List ℕ)) (k : Command) → command_of ws ≡ Some k → IfSome (as_flow (Some k)) IsWithinBounds
+within_bounds bounds ws (command.Flow c) h = flow_fits bounds ws c h
+within_bounds bounds ws (command.Gen c) h = tt
+within_bounds bounds ws (command.Tool k) h = tt
 
 pub run_at : (ws : List (List ℕ)) (k : Command) (before now : Outside) (s : Status) → command_of ws ≡ Some k → IfSome (as_gen (Some k)) (λ c. IsRun c before now s)
     → IfSome (gen_in ws) (λ c. IsRun c before now s)
@@ -145,23 +170,23 @@ both : {A : Type 0} {P Q R : A → Type 0} (o : Option A) → ((x : A) → P x �
 both None f p q = tt
 both (Some x) f p q = f x p q
 
-pub gen_headline_at : RunsHaveHeadlines → (ws : List (List ℕ)) (k : Command) (before now : Outside) (s : Status) → command_of ws ≡ Some k
+pub gen_headline_at : GensAreWithinBounds → RunsHaveHeadlines → (ws : List (List ℕ)) (k : Command) (before now : Outside) (s : Status) → command_of ws ≡ Some k
     → IfSome (as_gen (Some k)) (λ c. IsRun c before now s) → IfSome (gen_in ws) (λ c. s ≡ status.Accepted → IsGenHeadline c before now)
-gen_headline_at law ws k before now s is h =
+gen_headline_at bounds law ws k before now s is h =
     subst (λ (o : Option Command). IfSome (as_gen o) (λ c. s ≡ status.Accepted → IsGenHeadline c before now)) (sym is)
-    (both (as_gen (Some k)) (λ c fit run accepted. law c before now s fit run accepted) (fitting ws k is) h)
+    (both (as_gen (Some k)) (λ c fit run accepted. law c before now s fit run accepted) (fitting bounds ws k is) h)
 
-pub spared_at : SourcesAreSpared → (ws : List (List ℕ)) (k : Command) (before now : Outside) (s : Status) → command_of ws ≡ Some k
+pub spared_at : GensAreWithinBounds → SourcesAreSpared → (ws : List (List ℕ)) (k : Command) (before now : Outside) (s : Status) → command_of ws ≡ Some k
     → IfSome (as_gen (Some k)) (λ c. IsRun c before now s) → IfSome (gen_in ws) (λ c. IsSourceSpared c before s)
-spared_at law ws k before now s is h =
+spared_at bounds law ws k before now s is h =
     subst (λ (o : Option Command). IfSome (as_gen o) (λ c. IsSourceSpared c before s)) (sym is)
-    (both (as_gen (Some k)) (λ c fit run. law c before now s fit run) (fitting ws k is) h)
+    (both (as_gen (Some k)) (λ c fit run. law c before now s fit run) (fitting bounds ws k is) h)
 
-pub gen_free_at : FreeRunsEnd → (ws : List (List ℕ)) (k : Command) (before now : Outside) (s : Status) → command_of ws ≡ Some k
-    → IfSome (as_gen (Some k)) (λ c. IsRun c before now s) → IfSome (gen_in ws) (λ c. IsGenFree c before now → (s ≡ status.Accepted) ⊎ (s ≡ status.Memory))
-gen_free_at law ws k before now s is h =
-    subst (λ (o : Option Command). IfSome (as_gen o) (λ c. IsGenFree c before now → (s ≡ status.Accepted) ⊎ (s ≡ status.Memory))) (sym is)
-    (both (as_gen (Some k)) (λ c fit run free. law c before now s fit run free) (fitting ws k is) h)
+pub gen_free_at : GensAreWithinBounds → FreeRunsEnd → (ws : List (List ℕ)) (k : Command) (before now : Outside) (s : Status) → command_of ws ≡ Some k
+    → IfSome (as_gen (Some k)) (λ c. IsRun c before now s) → IfSome (gen_in ws) (λ c. IsGenFree c before now → Ends c.flow.tracks s)
+gen_free_at bounds law ws k before now s is h =
+    subst (λ (o : Option Command). IfSome (as_gen o) (λ c. IsGenFree c before now → Ends c.flow.tracks s)) (sym is)
+    (both (as_gen (Some k)) (λ c fit run free. law c before now s fit run free) (fitting bounds ws k is) h)
 
 pub never_run : (ws : List (List ℕ)) (e : WordsError) (before now : Outside) (s : Status) → IsUntouched before now → s ≡ status_of e
     → (IsErrOf {T = Command} (Err e) words.Usage → command_of ws ≡ None) → IfSome (gen_in ws) (λ c. IsRun c before now s)
@@ -185,7 +210,7 @@ pub no_words_spared : (ws : List (List ℕ)) (e : WordsError) (before : Outside)
 no_words_spared ws e before s is = all_some (gen_in ws) (λ c. subst (λ (x : Status). IsSourceSpared c before x) (sym is) (unread_spared c before e))
 
 pub no_gen_free : (ws : List (List ℕ)) (e : WordsError) (before now : Outside) (s : Status) → s ≡ status_of e → (IsErrOf {T = Command} (Err e) words.Usage → command_of ws ≡ None)
-    → IfSome (gen_in ws) (λ c. IsGenFree c before now → (s ≡ status.Accepted) ⊎ (s ≡ status.Memory))
+    → IfSome (gen_in ws) (λ c. IsGenFree c before now → Ends c.flow.tracks s)
 no_gen_free ws words.Usage before now s is none =
-    subst (λ (o : Option Command). IfSome (as_gen o) (λ c. IsGenFree c before now → (s ≡ status.Accepted) ⊎ (s ≡ status.Memory))) (sym (none refl)) tt
-no_gen_free ws words.Memory before now s is none = all_some (gen_in ws) (λ c free. inr is)
+    subst (λ (o : Option Command). IfSome (as_gen o) (λ c. IsGenFree c before now → Ends c.flow.tracks s)) (sym (none refl)) tt
+no_gen_free ws words.Memory before now s is none = all_some (gen_in ws) (λ c free. ends_memory c.flow.tracks s is)

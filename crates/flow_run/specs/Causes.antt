@@ -1,6 +1,7 @@
 -- What stands behind an answer of 0, and when it has to come, said of the files themselves.
-use Rattle.std.specs.Prelude.{◌≡◌, ℕ, List, Option, Some, IfSome}
+use Rattle.std.specs.Prelude.{◌≡◌, ◌⊎◌, ℕ, Bool, true, false, List, Option, Some, IfSome}
 use Rattle.std.specs.FinMap.{insert}
+use Rattle.vlsi_base.specs.declared.name.Terminal.{Terminal}
 use Rattle.vlsi_shelf.specs.Files.{Files}
 use Rattle.vlsi_shelf.specs.Counts.{Rose}
 use Rattle.vlsi_shelf.specs.Sink.{Puts}
@@ -10,11 +11,14 @@ use Rattle.cell_model.specs.Library.{Library}
 use Rattle.cell_lib.specs.Files.{catal_name, cell_files}
 use Rattle.boog_map.specs.Netlist.{Covers}
 use Rattle.flow_words.specs.declared.words.FlowCommand.{FlowCommand}
+use Rattle.tool_drive.specs.declared.status.Status.{Status}
+use Rattle.tool_drive.specs.declared.status.Status.TheVariants as status
 use Rattle.tool_drive.specs.Outside.{Outside, NothingFailed}
 use Rattle.tool_drive.specs.Held.{Holds, AreHad}
 use Rattle.flow_run.specs.Drawn.{layout_name}
 use Rattle.flow_run.specs.Origin.{Origin}
 use Rattle.flow_run.specs.Flow.{AreRead, IsWithinNodes}
+use Rattle.flow_run.specs.Route.{route_of}
 use Rattle.flow_run.specs.RightLayout.{IsRightLayout}
 
 -- SOURCE, the library's CATAL, and the behaviour and the layout of each cell that this uses are there, none too long, with these bytes.
@@ -36,7 +40,7 @@ pub record IsDrawn (old : Files) (now : Option Files) (c : FlowCommand) (report 
   pub read : AreRead c source catal cells o m l
   pub bytes : List ℕ
   pub written : now ≡ Some (insert old (layout_name c.out) bytes)
-  pub right : IsRightLayout bytes o m l c.fanout report
+  pub right : IsRightLayout bytes o m l c.fanout (route_of c) report
 
 -- the layout stands whole, on a shelf that tells its files
 abbrev pub StandsWhole : Outside → Outside → FlowCommand → List ℕ → Type 0
@@ -48,7 +52,8 @@ abbrev pub IsHeadline : FlowCommand → Outside → Outside → Type 0
 IsHeadline c before now = (report : List ℕ) × Puts before.told now.told report × StandsWhole before now c report
 
 -- Nothing stands in the way of a layout: the files are told and all are there; the source is a machine that isn't too large, and the
--- others are a library, whose cells may be drawn with tracks, with a usable cell of each kind that mapping needs; no diagram of the
+-- others are a library, whose cells may be drawn, with tracks where they are asked for, and which has a usable cell of each kind that
+-- mapping needs; no diagram of the
 -- machine's roots is over the budget; and no call on the shelf or the sink failed.
 pub record IsFree (c : FlowCommand) (before now : Outside) : Type 0 where
   pub files : Files
@@ -65,3 +70,8 @@ pub record IsFree (c : FlowCommand) (before now : Outside) : Type 0 where
   pub within : IsWithinNodes m c.nodes
   pub read : NothingFailed before now
   pub printed : Rose before.faults now.faults → ⊥
+
+-- what then comes: the layout, or without tracks a net that gets stuck, or out of memory
+abbrev pub Ends : Bool → Status → Type 0
+Ends true s = (s ≡ status.Accepted) ⊎ (s ≡ status.Memory)
+Ends false s = (s ≡ status.Accepted) ⊎ (s ≡ status.Memory) ⊎ ((net : ℕ) × (terminal : Terminal) × (s ≡ status.NoPath net terminal))

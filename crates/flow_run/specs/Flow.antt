@@ -1,5 +1,5 @@
 -- What `flow` reads and answers.
-use Rattle.std.specs.Prelude.{◌≡◌, ℕ, ◌<◌, ◌≤◌, true, List, [], ◌∷◌, get_or, None, Result, Ok, Err}
+use Rattle.std.specs.Prelude.{◌≡◌, ◌⊎◌, ℕ, ◌<◌, ◌≤◌, false, List, [], ◌∷◌, get_or, None, Result, Ok, Err}
 use Rattle.std.specs.List.{All}
 use Rattle.machine_core.specs.Machine.{Machine}
 use Rattle.machine_core.specs.Size.{machine_size}
@@ -26,7 +26,8 @@ use Rattle.tool_drive.specs.declared.tool.Refusal.{Refusal}
 use Rattle.tool_drive.specs.Plan.{Plan, Inputs, limited}
 use Rattle.tool_drive.specs.Refusals.{OfFile}
 use Rattle.flow_run.specs.Origin.{Origin, IsSourceFor, IsSourceRefusal}
-use Rattle.flow_run.specs.Drawn.{IsDrawnAs}
+use Rattle.flow_run.specs.Route.{many_rows, route_of}
+use Rattle.flow_run.specs.Drawn.{IsDrawnAs, IsStuckAs}
 
 -- SOURCE, then CATAL, and then the files of the cells that CATAL uses
 abbrev pub flow_plan : FlowCommand → Plan
@@ -37,11 +38,12 @@ pub record IsSourceOf (c : FlowCommand) (source : List ℕ) (o : Origin) (m : Ma
   pub machine : IsSourceFor c source o m
   pub small : machine_size m ≤ MOST_SIZE
 
--- The source is this machine, which isn't too large, and CATAL and the files are this library, whose cells may be drawn with tracks.
+-- The source is this machine, which isn't too large, and CATAL and the files are this library, whose cells may be drawn, with tracks where
+-- they are asked for.
 pub record AreRead (c : FlowCommand) (source catal : List ℕ) (cells : List (List ℕ)) (o : Origin) (m : Machine) (l : Library) : Type 0 where
   pub machine : IsSourceFor c source o m
   pub small : machine_size m ≤ MOST_SIZE
-  pub library : IsLibraryOf true catal cells l
+  pub library : IsLibraryOf c.tracks catal cells l
 
 -- no diagram of the machine's roots is over the budget
 abbrev pub IsWithinNodes : Machine → ℕ → Type 0
@@ -56,7 +58,7 @@ pub record IsLaidOut (c : FlowCommand) (source catal : List ℕ) (cells : List (
   pub read : AreRead c source catal cells o m l
   pub covered : Covers l m
   pub within : IsWithinNodes m c.nodes
-  pub drawn : IsDrawnAs c.out o m l c.fanout p
+  pub drawn : IsDrawnAs c.out o m l c.fanout (route_of c) p
 
 -- Why there is no source that can be laid out: its text and its ports, or else its size.
 pub data IsNoSource (c : FlowCommand) (source : List ℕ) (s : Status) : Type 0 where
@@ -68,7 +70,7 @@ pub data IsUnread (c : FlowCommand) (source catal : List ℕ) (cells : List (Lis
   no_list : (fault : CatalError) → Refused catal fault → s ≡ status_of (refused fault) → IsUnread c source catal cells s
   no_source : (names : List (List ℕ)) → IsCatal catal names → IsNoSource c source s → IsUnread c source catal cells s
   no_cell : (o : Origin) (m : Machine) (names : List (List ℕ)) (e : LibError) → IsSourceOf c source o m → IsCatal catal names
-      → IsFirstRefused (IsCell true) (IsCellRefusal true) (sources names cells) e → s ≡ status_of e → IsUnread c source catal cells s
+      → IsFirstRefused (IsCell c.tracks) (IsCellRefusal c.tracks) (sources names cells) e → s ≡ status_of e → IsUnread c source catal cells s
 
 -- Why a source has no layout: something isn't read; or else a kind is the first of those that are asked for which no usable cell has;
 -- or else a root is the first whose diagram is over the budget.
@@ -79,10 +81,23 @@ pub data IsFlowRefusal (c : FlowCommand) (source catal : List ℕ) (cells : List
   over_budget : (o : Origin) (m : Machine) (l : Library) → AreRead c source catal cells o m l → Covers l m → IsBudgetStatus m c.nodes s
       → IsFlowRefusal c source catal cells s
 
--- the layout is written and the report is printed, or one of these refusals
+-- Source and library are read, the library has a usable cell of each kind that mapping needs, and no diagram is over the budget; but
+-- over rows a net gets stuck, and NAME_part.ap shows it.
+pub record IsStuck (c : FlowCommand) (source catal : List ℕ) (cells : List (List ℕ)) (r : Refusal) : Type 0 where
+  pub no_tracks : c.tracks ≡ false
+  pub o : Origin
+  pub m : Machine
+  pub l : Library
+  pub read : AreRead c source catal cells o m l
+  pub covered : Covers l m
+  pub within : IsWithinNodes m c.nodes
+  pub shown : IsStuckAs c.out o m l c.fanout (many_rows c.rows) c.metals r
+
+-- the layout is written and the report is printed, or one of these refusals, or a net gets stuck
 abbrev pub LaysOut : FlowCommand → List ℕ → List ℕ → List (List ℕ) → Result Product Refusal → Type 0
 LaysOut c source catal cells (Ok p) = IsLaidOut c source catal cells p
-LaysOut c source catal cells (Err r) = (r.part ≡ None) × IsFlowRefusal c source catal cells r.status
+LaysOut c source catal cells (Err r) =
+    ((r.part ≡ None) × IsFlowRefusal c source catal cells r.status) ⊎ IsStuck c source catal cells r
 
 abbrev pub flow_answers : FlowCommand → Inputs → Result Product Refusal → Type 0
 flow_answers c i r = LaysOut c (get_or i.first 0 []) (get_or i.first 1 []) i.more r

@@ -1,5 +1,5 @@
 -- What a run of `gen` is: the text of a circuit is written as NAME.vbe, and from there `flow` answers.
-use Rattle.std.specs.Prelude.{◌≡◌, ◌⊎◌, ◌≤◌, true, ℕ, ◌++◌, List, codes, Option, Some, IfSome}
+use Rattle.std.specs.Prelude.{◌≡◌, ◌⊎◌, ◌≤◌, ℕ, ◌++◌, List, codes, Option, Some, IfSome}
 use Rattle.std.specs.FinMap.{get, insert}
 use Rattle.vlsi_base.specs.declared.fault.Limit.{Limit}
 use Rattle.vlsi_shelf.specs.Files.{Files}
@@ -18,6 +18,7 @@ use Rattle.gen_circuit.specs.Generated.{generated}
 use Rattle.gen_circuit.specs.Written.{text}
 use Rattle.gen_circuit.specs.declared.making.TheConstants.{LEAST_SIZE, MOST_SIZE}
 use Rattle.flow_words.specs.declared.words.GenCommand.{GenCommand}
+use Rattle.flow_words.specs.Words.{IsWithinBounds}
 use Rattle.tool_drive.specs.declared.status.Status.{Status}
 use Rattle.tool_drive.specs.declared.status.Status.TheVariants as status
 use Rattle.tool_drive.specs.declared.status.FileCause.TheVariants.{WriteFault}
@@ -27,13 +28,14 @@ use Rattle.tool_drive.specs.Plan.{long, reading}
 use Rattle.tool_drive.specs.Table.{file_limit, Caused, IsComplete}
 use Rattle.flow_run.specs.Origin.{equations}
 use Rattle.flow_run.specs.Flow.{flow_plan, flow_answers, IsWithinNodes, IsFlowRefusal}
-use Rattle.flow_run.specs.Causes.{IsDrawn}
+use Rattle.flow_run.specs.Causes.{IsDrawn, Ends}
 
 -- What words that spell `gen` ask for: a circuit of 8 to 4,000 gates, and NAME.vbe for SOURCE.
 pub record IsFitting (c : GenCommand) : Type 0 where
   pub least : LEAST_SIZE ≤ c.size
   pub most : c.size ≤ MOST_SIZE
   pub source : c.flow.source ≡ c.flow.out ++ codes ".vbe"
+  pub bounds : IsWithinBounds c.flow
 
 -- the circuit of the size and the seed that are asked for, and its text, in which the gates are g0, g1, and so on, as in the circuit
 abbrev pub circuit_of : GenCommand → Machine
@@ -93,7 +95,7 @@ pub record IsLibraryRefused (c : GenCommand) (files : Files) (s : Status) : Type
   pub catal_is : Holds files (catal_name c.flow.library) catal
   pub cells_are : AreHad files (cell_files c.flow.library (cells_in catal)) cells
   pub error : LibError
-  pub refused : IsRefusedLibrary true catal cells error
+  pub refused : IsRefusedLibrary c.flow.tracks catal cells error
   pub is : s ≡ status_of error
 
 -- a file of the library is the first that is longer than it may be
@@ -113,7 +115,7 @@ IsSourceSpared c before s = IfSome before.files (λ old. IsForLibrary c (with_so
 -- ---- completeness
 
 -- Nothing stands in the way: the files are told; with NAME.vbe written, all files of the library are there, and are one whose cells
--- may be drawn with tracks, with a usable cell of each kind that mapping needs; no diagram of the circuit's roots is over the budget;
+-- may be drawn, with tracks where they are asked for, and which has a usable cell of each kind that mapping needs; no diagram of the circuit's roots is over the budget;
 -- and no call on the shelf or the sink failed.
 pub record IsGenFree (c : GenCommand) (before now : Outside) : Type 0 where
   pub files : Files
@@ -123,7 +125,7 @@ pub record IsGenFree (c : GenCommand) (before now : Outside) : Type 0 where
   pub catal_is : Holds (with_source files c) (catal_name c.flow.library) catal
   pub cells_are : AreHad (with_source files c) (cell_files c.flow.library (cells_in catal)) cells
   pub l : Library
-  pub library : IsLibraryOf true catal cells l
+  pub library : IsLibraryOf c.flow.tracks catal cells l
   pub covered : Covers l (circuit_of c)
   pub within : IsWithinNodes (circuit_of c) c.flow.nodes
   pub ran : NothingFailed before now
@@ -135,7 +137,7 @@ pub record IsGenFree (c : GenCommand) (before now : Outside) : Type 0 where
 abbrev pub CircuitsAreNeverRefused : Type 0
 CircuitsAreNeverRefused =
     (c : GenCommand) (catal : List ℕ) (cells : List (List ℕ)) (l : Library) (s : Status)
-    → IsFitting c → IsLibraryOf true catal cells l → Covers l (circuit_of c)
+    → IsFitting c → IsLibraryOf c.flow.tracks catal cells l → Covers l (circuit_of c)
     → IsWithinNodes (circuit_of c) c.flow.nodes → IsFlowRefusal c.flow (circuit_text c) catal cells s → ⊥
 
 -- From a run to its headline, to what of its refusals comes, and to an answer of 0.
@@ -149,4 +151,4 @@ SourcesAreSpared = (c : GenCommand) (before now : Outside) (s : Status) → IsFi
 abbrev pub FreeRunsEnd : Type 0
 FreeRunsEnd =
     (c : GenCommand) (before now : Outside) (s : Status) → IsFitting c → IsRun c before now s → IsGenFree c before now
-    → (s ≡ status.Accepted) ⊎ (s ≡ status.Memory)
+    → Ends c.flow.tracks s

@@ -4,9 +4,13 @@ pub mod States
 pub mod View
 pub mod Report
 pub mod Lean
+pub mod Route
+pub mod GridLayout
 pub mod RightLayout
+pub mod StuckLayout
 pub mod Mapped
 pub mod Drawn
+pub mod RowText
 pub mod Flow
 pub mod Causes
 pub mod Laws

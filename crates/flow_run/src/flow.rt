@@ -13,6 +13,7 @@ ghost use Rattle.flow_run.specs.Origin.{is_fsm as is_state_machine, IsSourceFor,
 ghost use Rattle.flow_run.specs.View.{origin_view};
 ghost use Rattle.tool_drive.specs.declared.size.TheConstants.{MOST_SIZE};
 ghost use Rattle.flow_run.specs.Flow.{flow_plan, flow_answers, IsSourceOf, AreRead, IsNoSource, IsUnread, LaysOut};
+ghost use Rattle.flow_words.specs.Words.{IsWithinBounds};
 ghost use Rattle.flow_run.specs.Mapped.{IsMissingIn, IsMappedFor};
 
 use crate::layout::product;
@@ -29,6 +30,7 @@ use fsm_laws::machine_has_few_signals;
 use loon_drive::Driven;
 use machine_core::Machine;
 use std::alloc::{AllocError, Global};
+use std::marker::Model;
 use syf_run::{Encoded, encoded_law, encoded_machine, style_of};
 use tool_drive::{
     Answer, Product, Refusal, Status, Tool, Wanted, bytes_at, check_size, drive, refused,
@@ -44,12 +46,24 @@ use vlsi_shelf::{Shelf, Sink};
 /// All files are read first: SOURCE, CATAL, and the behaviour and the layout of each cell that this uses. Then it is refused, in this
 /// order: by `Library`, or a limit of CATAL, at the first line at fault; by `Source`, or a limit of the text, as a state machine where
 /// its name ends in `.fsm`, and else as a data-flow text; by `Limit` of `Size`, where the machine weighs more than `MOST_SIZE`; by
-/// `Library`, or a limit of a cell, at the first cell that fails a check, those for tracks among them; by `NoCover`, where the library
-/// has no usable cell of a kind; by `Budget`, at the first root whose diagram has more nodes than asked for. Memory goes by the files,
-/// the machine, one diagram, the netlist and the lines of the layout.
+/// `Library`, or a limit of a cell, at the first cell that fails a check, that for tracks among them where they are asked for; by
+/// `NoCover`, where the library has no usable cell of a kind; by `Budget`, at the first root whose diagram has more nodes than asked for;
+/// and, over rows, by `NoPath`, at the first net that gets stuck, with what stood so far in NAME_part.ap. Memory goes by the files, the
+/// machine, one diagram, the netlist, the lines of the layout, and over rows the nodes of the grid.
 #[derive(Drop)]
 struct Flow<'a> {
     command: &'a FlowCommand,
+}
+
+impl Model for Flow<'_> {
+    ghost use Rattle.flow_words.specs.declared.words.FlowCommand.{FlowCommand as Asked};
+    ghost use Rattle.flow_words.specs.Words.{IsWithinBounds};
+
+    ghost Value = { Asked };
+
+    ghost view = { λ a. a.command.now };
+
+    ghost invariant = { λ a. IsWithinBounds a.command.now };
 }
 
 /// What was read: the source, and the library.
@@ -124,7 +138,7 @@ fn read_all(
         Ok(source) => source,
         Err(status) => return Err(status),
     };
-    match listed_library(alloc, &names, cells, true) {
+    match listed_library(alloc, &names, cells, command.tracks) {
         Ok(library) => Ok(Read { source, library }),
         Err(error) => Err(library_status(error)),
     }
@@ -190,6 +204,7 @@ fn laid_out(
     catal: &[u8],
     cells: &[FileBytes],
 ) -> Result<Product, Refusal>
+    requires { IsWithinBounds command.now }
     ensures { IsJudged (LaysOut command.now source.now catal.now cells.now) result }
 {
     // What is read has names that can be written, few of them, and is small enough.
@@ -217,16 +232,15 @@ fn laid_out(
         nodes,
         fanout: command.fanout,
     };
-    let drawn = product(alloc, &command.out, &counted, &driven, &library)?;
-    Ok(drawn)
+    product(alloc, command, &counted, &driven, &library)
 }
 
 impl Tool for Flow<'_> {
     ghost use Rattle.flow_run.specs.Flow.{flow_plan, flow_answers};
 
-    ghost plan = { λ t. flow_plan t.command.now };
+    ghost plan = { flow_plan };
 
-    ghost answers = { λ t. flow_answers t.command.now };
+    ghost answers = { flow_answers };
 
     fn first(&self, alloc: Global) -> Result<Vec<Wanted>, AllocError> {
         let mut wanted = Vec::new(alloc);
@@ -258,6 +272,7 @@ pub fn run_flow<S: Shelf, T: Sink>(
     shelf: &mut S,
     out: &mut T,
 ) -> Status
+    requires { IsWithinBounds command.now }
     ensures cause { Caused (flow_plan command.now) (flow_answers command.now)
         (outside (S.seen shelf.old) (T.seen out.old)) (outside (S.seen shelf.new) (T.seen out.new)) result }
     ensures complete { IsComplete (flow_plan command.now) (flow_answers command.now)

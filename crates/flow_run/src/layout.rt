@@ -1,18 +1,23 @@
-// The layout of a netlist: placed in one row, drawn with private tracks, and written.
-ghost use Rattle.std.specs.Prelude.{◌≡◌, IfOk, true};
+// The layout of a netlist: with private tracks above one row, or in rows; and the text of its tracks.
+ghost use Rattle.std.specs.Prelude.{◌≡◌, IfOk, IfErr, true, false};
 ghost use Rattle.cell_checks.specs.Checked.{IsChecked as HasPassed};
 ghost use Rattle.machine_roots.specs.Roots.{IsGreatestDcount};
 ghost use Rattle.ocp_place.specs.Drawable.{IsDrawableIn};
 ghost use Rattle.route_draw.specs.Drawn.{IsDrawnInTracks};
 ghost use Rattle.flow_run.specs.View.{origin_view};
-ghost use Rattle.flow_run.specs.Drawn.{layout_name as layout_name_of, MayBeDrawn, IsLengthOf, IsDrawnAs};
+ghost use Rattle.flow_run.specs.Drawn.{layout_name as layout_name_of, MayBeDrawn, IsLengthOf, IsDrawnAs, IsStuckAs};
+ghost use Rattle.flow_run.specs.Route.{on_tracks, many_rows, route_of};
+ghost use Rattle.flow_words.specs.Words.{IsWithinBounds};
+ghost use Rattle.tool_drive.specs.Table.{IsFair};
 
 use crate::report::report;
+use crate::rows::row_product;
 use crate::source::Counted;
 use ap_io::{Figure, write_ap, written_is_read_again};
 use cell_checks::Library;
 use cell_pins::libraries_have_tables;
 use flow_netlist::driven_netlist_law;
+use flow_words::FlowCommand;
 use loon_drive::Driven;
 use machine_core::alike_law;
 use nero_tracks::{TrackError, columns_are_free, route_tracks};
@@ -21,7 +26,7 @@ use net_right::right_is_well_formed;
 use ocp_place::{half_perimeter, right_may_be_drawn, track_place};
 use route_draw::{draw_tracks, drawing_can_be_written, right_drawings_are_right};
 use std::alloc::{AllocError, Global};
-use tool_drive::Product;
+use tool_drive::{Product, Refusal};
 use vlsi_base::FileName;
 
 /// What is drawn, and how long its nets are.
@@ -52,7 +57,7 @@ fn drawing(alloc: Global, netlist: &Netlist, library: &Library) -> Result<Sheet,
     Ok(Sheet { figure, wire })
 }
 
-fn layout_name(alloc: Global, out: &FileName) -> Result<FileName, AllocError>
+pub(crate) fn layout_name(alloc: Global, out: &FileName) -> Result<FileName, AllocError>
     ensures { IfOk result (λ name. name ≡ layout_name_of out.now) }
 {
     let mut name = out.copy(alloc)?;
@@ -60,18 +65,18 @@ fn layout_name(alloc: Global, out: &FileName) -> Result<FileName, AllocError>
     Ok(name)
 }
 
-/// The layout of a machine's netlist, in the file NAME.ap, and the report on it. Memory goes by the lines of the layout.
-pub(crate) fn product(
+// The layout of a machine's netlist with tracks, in the file NAME.ap, and the report on it.
+fn track_product(
     alloc: Global,
     out: &FileName,
     counted: &Counted,
     driven: &Driven,
     library: &Library,
 ) -> Result<Product, AllocError>
-    requires netlist { MayBeDrawn library.now (origin_view counted.now.source.origin) counted.now.source.machine counted.now.fanout
+    requires netlist { MayBeDrawn true library.now (origin_view counted.now.source.origin) counted.now.source.machine counted.now.fanout
         driven.now.netlist driven.now.delay }
     requires nodes { IsGreatestDcount counted.now.source.machine counted.now.nodes }
-    ensures { IfOk result (λ p. IsDrawnAs out.now (origin_view counted.now.source.origin) counted.now.source.machine library.now counted.now.fanout p) }
+    ensures { IfOk result (λ p. IsDrawnAs out.now (origin_view counted.now.source.origin) counted.now.source.machine library.now counted.now.fanout on_tracks p) }
 {
     driven_netlist_law();
     right_is_well_formed();
@@ -92,4 +97,30 @@ pub(crate) fn product(
         file: Some(file),
         text,
     })
+}
+
+/// The layout of a machine's netlist, in the file NAME.ap, and the report on it; or, over rows, where a net gets stuck, what stood so far in
+/// NAME_part.ap. Memory goes by the lines of the layout, and over rows by the nodes of the grid.
+pub(crate) fn product(
+    alloc: Global,
+    command: &FlowCommand,
+    counted: &Counted,
+    driven: &Driven,
+    library: &Library,
+) -> Result<Product, Refusal>
+    requires bounds { IsWithinBounds command.now }
+    requires netlist { MayBeDrawn command.now.tracks library.now (origin_view counted.now.source.origin) counted.now.source.machine
+        counted.now.fanout driven.now.netlist driven.now.delay }
+    requires nodes { IsGreatestDcount counted.now.source.machine counted.now.nodes }
+    ensures drawn { IfOk result (λ p. IsDrawnAs command.now.out (origin_view counted.now.source.origin) counted.now.source.machine library.now
+        counted.now.fanout (route_of command.now) p) }
+    ensures stuck { IfErr result (λ r. IsFair r.status r.part ((command.now.tracks ≡ false) × IsStuckAs command.now.out
+        (origin_view counted.now.source.origin) counted.now.source.machine library.now counted.now.fanout (many_rows command.now.rows)
+        command.now.metals r)) }
+{
+    if command.tracks {
+        let product = track_product(alloc, &command.out, counted, driven, library)?;
+        return Ok(product);
+    }
+    row_product(alloc, command, counted, driven, library)
 }

@@ -15,6 +15,7 @@ mod one_library;
 mod reading;
 mod report;
 mod right_layout;
+mod rows;
 mod source;
 mod top;
 

@@ -6,15 +6,17 @@ ghost use Rattle.tool_drive.specs.Lines.{line_of as line_of_tool};
 ghost use Rattle.tool_drive.specs.Table.{Caused, IsComplete};
 ghost use Rattle.tool_run.specs.Usage.{line_of};
 ghost use Rattle.tool_run.specs.Answers.{IsAnswerTo};
+ghost use Rattle.flow_words.specs.Words.{IsWithinBounds};
 ghost use Rattle.flow_run.specs.Commands.{command_of, word_of, as_flow, flow_in, as_gen, gen_in, as_tool, tool_in};
 ghost use Rattle.flow_run.specs.Flow.{flow_plan, flow_answers};
-ghost use Rattle.flow_run.specs.Causes.{IsHeadline, IsFree};
+ghost use Rattle.flow_run.specs.Causes.{IsHeadline, IsFree, Ends};
 ghost use Rattle.flow_run.specs.Generated.{IsFitting, IsRun, IsGenHeadline, IsSourceSpared, IsGenFree};
 
 use crate::command::{Command, read_words};
 use crate::flow::run_flow;
 use crate::gen_run::{gen_law, run_gen};
 use crate::reading::reading_law;
+use flow_words::words_are_within_bounds;
 use std::alloc::Global;
 use tool_run::{Status, refuse_words, run_tool, words_law};
 use tool_words::Words;
@@ -22,7 +24,8 @@ use vlsi_shelf::{Shelf, Sink};
 
 // Runs the tool that a command is for.
 fn run<S: Shelf, T: Sink>(alloc: Global, command: &Command, shelf: &mut S, out: &mut T) -> Status
-    requires { IfSome (as_gen (Some command.now)) IsFitting }
+    requires bounds { IfSome (as_flow (Some command.now)) IsWithinBounds }
+    requires fitting { IfSome (as_gen (Some command.now)) IsFitting }
     ensures cause { IfSome (as_flow (Some command.now)) (λ c. Caused (flow_plan c) (flow_answers c)
         (outside (S.seen shelf.old) (T.seen out.old)) (outside (S.seen shelf.new) (T.seen out.new)) result) }
     ensures complete { IfSome (as_flow (Some command.now)) (λ c. IsComplete (flow_plan c) (flow_answers c)
@@ -53,7 +56,7 @@ fn run<S: Shelf, T: Sink>(alloc: Global, command: &Command, shelf: &mut S, out: 
 /// if it has one, and then prints its text by one put.
 ///
 /// - `flow` reads SOURCE, CATAL, and the behaviour and the layout of each cell that this uses, writes the layout to NAME.ap and
-///   prints the report.
+///   prints the report; where a net gets stuck over rows, it writes what stood so far to NAME_part.ap.
 /// - `gen` first writes the source to NAME.vbe, and then does with it what `flow` does.
 /// - `syf` reads SOURCE, writes the data-flow source to NAME.vbe and prints each state with its code.
 /// - `boom` reads SOURCE, writes the smaller one to NAME.vbe and prints how large it is.
@@ -95,9 +98,9 @@ pub fn alliance_main<S: Shelf, T: Sink>(
         → IsHeadline c (outside (S.seen shelf.old) (T.seen out.old)) (outside (S.seen shelf.new) (T.seen out.new))) }
 
     // Where all files are there, the source is a machine or a state machine within the limits, the others are a library that covers
-    // it, no diagram is over the budget, and no call failed, the answer is 0, or out of memory.
+    // it, no diagram is over the budget, and no call failed, the answer is 0, or over rows that a net gets stuck, or out of memory.
     ensures lays { IfSome (flow_in words.now) (λ c. IsFree c (outside (S.seen shelf.old) (T.seen out.old)) (outside (S.seen shelf.new) (T.seen out.new))
-        → (result ≡ Status.Accepted) ⊎ (result ≡ Status.Memory)) }
+        → Ends c.tracks result) }
 
     // `gen` writes NAME.vbe, the text of the circuit that is made of the seed, and answers from there as `flow` does; or it can't
     // write it.
@@ -113,9 +116,9 @@ pub fn alliance_main<S: Shelf, T: Sink>(
     ensures spared { IfSome (gen_in words.now) (λ c. IsSourceSpared c (outside (S.seen shelf.old) (T.seen out.old)) result) }
 
     // Where all files of the library are there, and are one that covers it, no diagram is over the budget, and no call failed, it
-    // answers 0, or out of memory.
+    // answers 0, or over rows that a net gets stuck, or out of memory.
     ensures generates { IfSome (gen_in words.now) (λ c. IsGenFree c (outside (S.seen shelf.old) (T.seen out.old)) (outside (S.seen shelf.new) (T.seen out.new))
-        → (result ≡ Status.Accepted) ⊎ (result ≡ Status.Memory)) }
+        → Ends c.flow.tracks result) }
 
     // The answers of every other tool: each has its cause and leaves the files that its row says, and over told files, where nothing
     // failed, it is what the files come to.
@@ -126,6 +129,7 @@ pub fn alliance_main<S: Shelf, T: Sink>(
     ensures line { has_line result ≡ true → IsLine (T.seen out.old) (T.seen out.new) (line_of words.now result) }
 {
     words_law();
+    words_are_within_bounds();
     reading_law();
     gen_law();
     match read_words(alloc, words) {

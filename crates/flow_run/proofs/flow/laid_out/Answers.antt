@@ -41,13 +41,3 @@ returns-in-Err-mapped c =
     (by_budget c.args.command.now c.args.source.now c.args.catal.now c.args.cells.now (origin_view c.in-Ok.read.source.origin) c.in-Ok.read.source.machine
     c.in-Ok.read.library c.in-Err-mapped.status c.in-Ok.ensures.read c.in-Ok-check_kinds.ensures.covered c.in-Err-mapped.ensures.refused)
 
-pub returns : goal.returns
-returns c = record {
-  o = origin_view c.in-Ok.read.source.origin;
-  m = c.in-Ok.read.source.machine;
-  l = c.in-Ok.read.library;
-  read = c.in-Ok.ensures.read;
-  covered = c.in-Ok-check_kinds.ensures.covered;
-  within = c.in-Ok-mapped.ensures.mapped.made.within;
-  drawn = c.in_ok-drawn.ensures;
-}

@@ -1,6 +1,6 @@
 use Rattle.std.proofs.Common.{refl}
 use Rattle.tool_drive.specs.Outside.{outside}
-use Rattle.flow_run.proofs.Words.{line_by, headline_at, no_headline, free_at, none_free, flow_unread, answer_at, none_answered, fitting, run_at, gen_headline_at, spared_at, gen_free_at, never_run, no_gen_headline, no_words_spared, no_gen_free}
+use Rattle.flow_run.proofs.Words.{line_by, headline_at, no_headline, free_at, none_free, flow_unread, answer_at, none_answered, within_bounds, fitting, run_at, gen_headline_at, spared_at, gen_free_at, never_run, no_gen_headline, no_words_spared, no_gen_free}
 use Rattle.flow_run.proofs.top.alliance_main.Goals as goal
 
 pub returns-in-Ok-clause-headline : goal.returns-in-Ok-clause-headline
@@ -43,8 +43,11 @@ returns-in-Ok-clause-answer g c =
     answer_at c.args.words.now c.in-Ok.command (outside (g.S.Shelf.seen c.args.shelf.now) (g.T.Sink.seen c.args.out.now)) (outside (g.S.Shelf.seen c.run.new.shelf) (g.T.Sink.seen c.run.new.out))
     c.run.result c.in-Ok.ensures.ok c.run.ensures.answer
 
-pub run-requires : goal.run-requires
-run-requires g c = fitting c.args.words.now c.in-Ok.command c.in-Ok.ensures.ok
+pub run-requires-clause-bounds : goal.run-requires-clause-bounds
+run-requires-clause-bounds g c = within_bounds c.words_are_within_bounds.ensures.flows c.args.words.now c.in-Ok.command c.in-Ok.ensures.ok
+
+pub run-requires-clause-fitting : goal.run-requires-clause-fitting
+run-requires-clause-fitting g c = fitting c.words_are_within_bounds.ensures.gens c.args.words.now c.in-Ok.command c.in-Ok.ensures.ok
 
 pub returns-in-Ok-clause-run : goal.returns-in-Ok-clause-run
 returns-in-Ok-clause-run g c =
@@ -53,17 +56,17 @@ returns-in-Ok-clause-run g c =
 
 pub returns-in-Ok-clause-generated : goal.returns-in-Ok-clause-generated
 returns-in-Ok-clause-generated g c =
-    gen_headline_at c.gen_law.ensures.headline c.args.words.now c.in-Ok.command (outside (g.S.Shelf.seen c.args.shelf.now) (g.T.Sink.seen c.args.out.now)) (outside (g.S.Shelf.seen c.run.new.shelf) (g.T.Sink.seen c.run.new.out))
+    gen_headline_at c.words_are_within_bounds.ensures.gens c.gen_law.ensures.headline c.args.words.now c.in-Ok.command (outside (g.S.Shelf.seen c.args.shelf.now) (g.T.Sink.seen c.args.out.now)) (outside (g.S.Shelf.seen c.run.new.shelf) (g.T.Sink.seen c.run.new.out))
     c.run.result c.in-Ok.ensures.ok c.run.ensures.run
 
 pub returns-in-Ok-clause-spared : goal.returns-in-Ok-clause-spared
 returns-in-Ok-clause-spared g c =
-    spared_at c.gen_law.ensures.spared c.args.words.now c.in-Ok.command (outside (g.S.Shelf.seen c.args.shelf.now) (g.T.Sink.seen c.args.out.now)) (outside (g.S.Shelf.seen c.run.new.shelf) (g.T.Sink.seen c.run.new.out))
+    spared_at c.words_are_within_bounds.ensures.gens c.gen_law.ensures.spared c.args.words.now c.in-Ok.command (outside (g.S.Shelf.seen c.args.shelf.now) (g.T.Sink.seen c.args.out.now)) (outside (g.S.Shelf.seen c.run.new.shelf) (g.T.Sink.seen c.run.new.out))
     c.run.result c.in-Ok.ensures.ok c.run.ensures.run
 
 pub returns-in-Ok-clause-generates : goal.returns-in-Ok-clause-generates
 returns-in-Ok-clause-generates g c =
-    gen_free_at c.gen_law.ensures.free c.args.words.now c.in-Ok.command (outside (g.S.Shelf.seen c.args.shelf.now) (g.T.Sink.seen c.args.out.now)) (outside (g.S.Shelf.seen c.run.new.shelf) (g.T.Sink.seen c.run.new.out))
+    gen_free_at c.words_are_within_bounds.ensures.gens c.gen_law.ensures.free c.args.words.now c.in-Ok.command (outside (g.S.Shelf.seen c.args.shelf.now) (g.T.Sink.seen c.args.out.now)) (outside (g.S.Shelf.seen c.run.new.shelf) (g.T.Sink.seen c.run.new.out))
     c.run.result c.in-Ok.ensures.ok c.run.ensures.run
 
 pub returns-in-Err-clause-run : goal.returns-in-Err-clause-run
