@@ -55,7 +55,7 @@ struct Flow<'a> {
     command: &'a FlowCommand,
 }
 
-impl Model for Flow<'_> {
+impl<'a> Model for Flow<'a> {
     ghost use Rattle.flow_words.specs.declared.words.FlowCommand.{FlowCommand as Asked};
     ghost use Rattle.flow_words.specs.Words.{IsWithinBounds};
 
