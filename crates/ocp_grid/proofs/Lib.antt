@@ -1,0 +1,2 @@
+pub mod PinPlaces
+pub mod Apart
