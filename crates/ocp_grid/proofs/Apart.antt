@@ -114,12 +114,12 @@ module _ (n : AbstractNetlist) (l : Library) (net : Numbering) (p : Placement) (
     few_metals = omega arith;
     trees = λ k lt. tt;
     drawn = λ k lt. record {
-          runs = λ one h. elim h [ ];
-          whole = λ q h. elim h.listed [ ];
-          wire_order = λ i j d lt below. absurd (omega arith);
-          vias = λ v. (λ h. elim h [ ], λ h. no_via v h);
-          via_order = λ i j d lt below. absurd (omega arith);
-        };
+      runs = λ one h. elim h [ ];
+      whole = λ q h. elim h.listed [ ];
+      wire_order = λ i j d lt below. absurd (omega arith);
+      vias = λ v. (λ h. elim h [ ], λ h. no_via v h);
+      via_order = λ i j d lt below. absurd (omega arith);
+    };
   }
     where
       no_via : {ts : List Node} (v : Node) → HasVia None ts v → In v []
