@@ -1,5 +1,5 @@
 -- The grid over the rows of a placement in memory, and the points of its nets there.
-use Rattle.std.specs.Prelude.{◌≡◌, ℕ, ◌<◌, ◌≤◌, List, Some, length, slice_get}
+use Rattle.std.specs.Prelude.{◌≡◌, ℕ, ◌<◌, List, Some, length, slice_get}
 use Rattle.cell_model.specs.Library.{Library}
 use Rattle.net_core.specs.Netlist.{Netlist as InMemory}
 use Rattle.net_meaning.specs.Netlist.{AbstractNetlist}
