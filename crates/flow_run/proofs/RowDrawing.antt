@@ -129,9 +129,9 @@ counted reported =
 pub stuck_layout : RightIsWellFormed → MarkedDrawingCanBeWritten → LinesAreReadAgain → AlikeRun → AlikeBothWays → DrivenIsGood → PlacementsAreInRows → RoutesKeepNets
     → MarkedRoutesKeepNets → MarksTellNets
     → (l : Library) (o : Origin) (m : Machine) (fanout : ℕ) (n : Netlist) (delay : ℕ) (p : InRow) (rows metals net : ℕ) (terminal : Terminal) (bytes : List ℕ)
-    → HasPassed false l → MayBeDrawn false l o m fanout n delay → IsRowPlacementOf l n p → IsFirstPlacement l n rows p → IsEvenPlacement l n p → metals ≤ 6
-    → IsStuckText l n p metals net terminal bytes → IsStuckLayout bytes o m l fanout rows metals net terminal
-stuck_layout well written again runs back good in_rows keeps marked_keeps tells l o m fanout n delay p rows metals net terminal bytes passed h placed first even few t =
+    → HasPassed false l → MayBeDrawn false l o m fanout n delay → n.count ≤ 4294967296 → IsRowPlacementOf l n p → IsFirstPlacement l n rows p → IsEvenPlacement l n p
+    → metals ≤ 6 → IsStuckText l n p metals net terminal bytes → IsStuckLayout bytes o m l fanout rows metals net terminal
+stuck_layout well written again runs back good in_rows keeps marked_keeps tells l o m fanout n delay p rows metals net terminal bytes passed h counted placed first even few t =
     let right = h.netlist.right in
     let k = right.sourced.netlist in
     let seen = right.seen in
@@ -148,6 +148,8 @@ stuck_layout well written again runs back good in_rows keeps marked_keeps tells 
     let over = routed in_rows l n p k metals t.routes plain placed seen few t.trees drawn in
     let lines : f.items ≡ part_items k l (net_number k l) q instances w =
     marked.lines k seen ∙ ap (λ (items : List Item). items ++ marks k l (net_number k l) q instances) (drawn.lines k seen) in
+    let same : net_count k ≡ n.count - 2 = ap (λ (x : Seen). net_count x) seen.is in
+    let many : net_count k ≤ 18446744073709551616 = omega (arith, same, counted) in
     let both = marked_keeps k l (net_number k l) q instances metals t.routes w over in
     record {
       figure = f;
@@ -155,7 +157,7 @@ stuck_layout well written again runs back good in_rows keeps marked_keeps tells 
       placement = q;
       file = subst (λ (b : List ℕ). IsApLines b f) (sym t.shown.text) (again f fits.0 fits.1);
       named = marked.name ∙ drawn.named ∙ ap (λ (name : List ℕ). Some (scalar name)) r.named;
-      told = subst (λ (items : List Item). TellsNets items k l q) (sym lines) (tells k l (net_number k l) q instances w (in_rows l n p k placed seen));
+      told = subst (λ (items : List Item). TellsNets items k l q) (sym lines) (tells k l (net_number k l) q instances w (in_rows l n p k placed seen) many);
       well = r.well;
       agrees = r.agrees;
       by_states = r.by_states;
