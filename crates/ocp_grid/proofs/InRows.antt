@@ -1,19 +1,14 @@
 -- A placement in rows stands in rows as drawing asks, and is routed as far as no net has a tree.
-use Rattle.std.proofs.Common.{◌≡◌, ℕ, zero, suc, ◌+◌, ◌<◌, ◌≤◌, List, [], ◌∷◌, ◌++◌, map, length, Option, Some, None, refl, sym, ap, ap₂, ◌∙◌, subst, arith}
-use Rattle.std.specs.Prelude.{pos, flat_map, IsPermutation}
+use Rattle.std.proofs.Common.{◌≡◌, ℕ, suc, ◌+◌, ◌<◌, List, [], ◌∷◌, ◌++◌, map, length, None, refl, ap, ap₂, ◌∙◌, subst, arith}
+use Rattle.std.specs.Prelude.{flat_map, IsPermutation}
 use Rattle.std.proofs.lemmas.List.{length-map, map-append}
 use Rattle.std.proofs.lemmas.List.Sorted.{IsPermutation-map}
-use Rattle.vlsi_base.specs.Member.{In}
 use Rattle.sym_geom.specs.declared.item.Instance.{Instance}
 use Rattle.cell_model.specs.Library.{Library}
-use Rattle.net_core.specs.Netlist.{Netlist as InMemory}
 use Rattle.net_meaning.specs.Netlist.{Member, AbstractNetlist}
-use Rattle.net_right.specs.View.{IsSeenAs}
 use Rattle.net_drawing.specs.Drawing.{Numbering}
 use Rattle.ocp_rows.specs.Placement.{Placement}
 use Rattle.row_meaning.specs.First.{numbers}
-use Rattle.ocp_place.specs.Nets.{net_number}
-use Rattle.ocp_place.specs.Placed.{InRow, IsRowPlacementOf, rows_of, stood_in}
 use Rattle.ocp_place.specs.Stood.{member, named_rows}
 use Rattle.ocp_place.proofs.RowSited.{stood_listed}
 use Rattle.ocp_place.proofs.Seen.{orderly}

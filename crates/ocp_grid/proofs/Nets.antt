@@ -1,5 +1,5 @@
 -- The points of nets one after another, for each netlist of layouts that one in memory is seen as.
-use Rattle.std.proofs.Common.{◌≡◌, ℕ, zero, suc, ◌+◌, ◌/◌, ◌<◌, ◌≤◌, not, filter, List, [], ◌∷◌, ◌++◌, map, length, Option, Some, None, refl, sym, ap, subst, ◌∙◌, arith}
+use Rattle.std.proofs.Common.{◌≡◌, ℕ, zero, suc, ◌+◌, ◌/◌, ◌<◌, not, filter, List, [], ◌∷◌, ◌++◌, map, length, Some, None, ap, subst, ◌∙◌, arith}
 use Rattle.std.specs.Prelude.{slice_get, slice_index_or}
 use Rattle.std.specs.List.{All}
 use Rattle.std.proofs.lemmas.Option.{same_Some}
@@ -9,18 +9,16 @@ use Rattle.net_core.specs.Netlist.{Netlist as InMemory}
 use Rattle.net_core.proofs.Standing.{Split, left, right, split}
 use Rattle.net_meaning.specs.Netlist.{AbstractNetlist}
 use Rattle.net_right.specs.View.{IsSeenAs}
-use Rattle.ocp_rows.specs.Placement.{net_count}
 use Rattle.ocp_place.specs.declared.row.Site.{Site as Placed}
-use Rattle.ocp_place.specs.Nets.{is_among, net_classes, net_number}
-use Rattle.ocp_place.specs.Orderly.{IsOrderly}
-use Rattle.ocp_place.specs.Placed.{InRow, AreRowsOf, IsRowPlacementOf, rows_of, stood_in}
+use Rattle.ocp_place.specs.Nets.{is_among}
+use Rattle.ocp_place.specs.Placed.{InRow, IsRowPlacementOf}
 use Rattle.ocp_place.specs.Reaches.{site_of}
 use Rattle.ocp_place.proofs.Classes.{known, known_seen}
 use Rattle.ocp_place.proofs.Seen.{orderly}
 use Rattle.nero_tracks.specs.Tracks.{net_pins}
 use Rattle.maze_nets.specs.declared.points.NetPoints.{NetPoints}
 use Rattle.maze_nets.specs.Nets.{port_node}
-use Rattle.ocp_grid.specs.Points.{IsNetOf, ArePointsOf, ArePointsIn}
+use Rattle.ocp_grid.specs.Points.{IsNetOf, ArePointsIn}
 use Rattle.ocp_grid.specs.Sites.{point_node, IsOnGrid, net_port}
 use Rattle.ocp_grid.proofs.InRows.{placements_are_in_rows}
 use Rattle.ocp_grid.proofs.Spots.{classes_are, nets_many, terminals, port_nodes_are, sites_on}

@@ -2,7 +2,7 @@
 use Rattle.std.proofs.Common.{◌≡◌, ℕ, Bool, true, false, cond, List, [], ◌∷◌, map, drop, subst}
 use Rattle.std.specs.Prelude.{nat_lt}
 use Rattle.std.specs.List.{All}
-use Rattle.vlsi_base.specs.Member.{In, here, there}
+use Rattle.vlsi_base.specs.Member.{In, there}
 use Rattle.cell_model.specs.Access.{Point}
 use Rattle.cell_model.proofs.Members.{In-map, In-map_back, All-In, All-from}
 use Rattle.ocp_place.specs.declared.row.Site.{Site}

@@ -1,9 +1,8 @@
 -- The points of a placement's classes: which are those of nets, and that they lie on the grid.
-use Rattle.std.proofs.Common.{◌≡◌, ◌⊎◌, inl, inr, ℕ, zero, suc, ◌+◌, ◌*◌, ◌-◌, ◌/◌, ◌<◌, ◌≤◌, Bool, true, false, cond, not, filter, List, [], ◌∷◌, ◌++◌, map, length, Option, Some, refl, sym, ap, subst, ◌∙◌, arith}
-use Rattle.std.specs.Prelude.{slice_get, slice_index_or, nat_lt}
+use Rattle.std.proofs.Common.{◌≡◌, inl, inr, ℕ, ◌+◌, ◌*◌, ◌-◌, ◌/◌, ◌<◌, ◌≤◌, Bool, true, false, cond, not, filter, List, [], ◌∷◌, ◌++◌, map, length, Some, sym, ap, subst, ◌∙◌, arith}
+use Rattle.std.specs.Prelude.{slice_get, slice_index_or}
 use Rattle.std.specs.List.{All}
 use Rattle.std.proofs.lemmas.Bool.{cases_lt}
-use Rattle.std.proofs.lemmas.Bool.Decides.{nat_tests}
 use Rattle.std.proofs.lemmas.List.{length-map}
 use Rattle.std.proofs.lemmas.Option.{slice_get_within}
 use Rattle.std.proofs.Math.Nat.{mul-div-le, mul-le-mul_right}
@@ -36,7 +35,7 @@ use Rattle.maze_drawing.proofs.Stands.{block_at, sound}
 use Rattle.ocp_grid.specs.Law.{IsInRows}
 use Rattle.ocp_grid.specs.Sites.{point_node, IsOnGrid, net_port}
 use Rattle.ocp_grid.proofs.InRows.{no_routes, no_wiring, unrouted}
-use Rattle.ocp_grid.proofs.Sited.{nodes_in, points_append, pins_are, top, no_port, one_port, is_less, is_not_less, port_first, pins_behind, port_none, pins_alone, top_node, different_left, past_all, stands_first}
+use Rattle.ocp_grid.proofs.Sited.{points_append, pins_are, top, no_port, one_port, is_less, is_not_less, port_first, pins_behind, port_none, pins_alone, top_node, different_left, past_all, stands_first}
 
 -- ---- pins
 
