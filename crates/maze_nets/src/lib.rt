@@ -6,6 +6,7 @@ mod points;
 mod ranks;
 mod reserve;
 mod routing;
+mod ties;
 
 pub use error::RouteError;
 pub use points::NetPoints;

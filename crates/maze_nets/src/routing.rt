@@ -12,6 +12,7 @@ use crate::error::RouteError;
 use crate::points::NetPoints;
 use crate::ranks::net_order;
 use crate::reserve::reserve;
+use crate::ties::{Ties, penalties};
 use grid_core::{Grid, Occupied, Routes};
 use nero_maze::Router;
 use std::alloc::{AllocError, Global};
@@ -70,7 +71,7 @@ fn route_in_order(router: &mut Router, nets: &[NetPoints], order: &[u32]) -> Opt
 }
 
 /// A router in which each net owns what is reserved for it.
-fn begin(alloc: Global, grid: Grid, nets: &[NetPoints]) -> Result<Router, AllocError>
+fn begin(alloc: Global, grid: Grid, nets: &[NetPoints], ties: Ties) -> Result<Router, AllocError>
     requires few_nodes { nodes grid < 4294967295 }
     requires few { length nets.now < 4294967295 }
     requires routable { AreRoutable grid nets.now }
@@ -79,11 +80,47 @@ fn begin(alloc: Global, grid: Grid, nets: &[NetPoints]) -> Result<Router, AllocE
 {
     let mut occupied = Occupied::begin(alloc, grid)?;
     reserve(&mut occupied, nets);
-    Router::begin(alloc, occupied)
+    let penalties = penalties(alloc, grid, nets, ties)?;
+    Router::begin_with(alloc, occupied, penalties)
 }
 
-/// The routes of nets in this order. What is free among paths of least cost is the router's choice.
+/// The routes of nets in this order, where paths of one cost are chosen so.
 fn attempt(
+    alloc: Global,
+    grid: Grid,
+    nets: &[NetPoints],
+    order: &[u32],
+    ties: Ties,
+) -> Result<Routes, RouteError>
+    requires few_nodes { nodes grid < 4294967295 }
+    requires few { length nets.now < 4294967295 }
+    requires routable { AreRoutable grid nets.now }
+    requires order { IsNetOrder (half_perimeter nets.now) (length nets.now) order.now }
+    ensures size { IfOk result (λ r. length r ≡ length nets.now) }
+    ensures routes { IfOk result (λ r. AreRoutes grid (net_reserved nets.now) (net_points nets.now) (length nets.now) (tree_in r)) }
+    ensures ordered { IfOk result (λ r. AreOrdered grid nets.now (tree_in r)) }
+    ensures refused { IfErr result (λ e. IsRefusal grid nets.now e) }
+{
+    let mut router = begin(alloc, grid, nets, ties)?;
+    let stuck = route_in_order(&mut router, nets, order);
+    let routes = router.routes(alloc, nets.len())?;
+    match stuck {
+        None => Ok(routes),
+        Some(stuck) => Err(RouteError::NoPath {
+            net: stuck.net,
+            point: stuck.point,
+            so_far: routes,
+        }),
+    }
+}
+
+/// Whether a net got stuck.
+fn is_stuck(routes: &Result<Routes, RouteError>) -> bool {
+    matches!(routes, Err(RouteError::NoPath { .. }))
+}
+
+/// The routes of nets in this order. Where a net gets stuck, other paths of least cost are tried, twice; the last answer stands.
+fn attempts(
     alloc: Global,
     grid: Grid,
     nets: &[NetPoints],
@@ -98,22 +135,21 @@ fn attempt(
     ensures ordered { IfOk result (λ r. AreOrdered grid nets.now (tree_in r)) }
     ensures refused { IfErr result (λ e. IsRefusal grid nets.now e) }
 {
-    let mut router = begin(alloc, grid, nets)?;
-    let stuck = route_in_order(&mut router, nets, order);
-    let routes = router.routes(alloc, nets.len())?;
-    match stuck {
-        None => Ok(routes),
-        Some(stuck) => Err(RouteError::NoPath {
-            net: stuck.net,
-            point: stuck.point,
-            so_far: routes,
-        }),
+    let first = attempt(alloc, grid, nets, order, Ties::High);
+    if !is_stuck(&first) {
+        return first;
     }
+    let second = attempt(alloc, grid, nets, order, Ties::Apart);
+    if !is_stuck(&second) {
+        return second;
+    }
+    attempt(alloc, grid, nets, order, Ties::First)
 }
 
 /// The routes of nets over a grid: by half perimeter, then by number, each by least paths from its first point on, beside the trees
 /// of those before it and what is reserved for others. A net's port and its terminals are its points; reserved for it are these and
-/// the nodes above its terminals. Refused exactly where a net gets stuck so. Takes 15 bytes a node, and memory for the routes.
+/// the nodes above its terminals. Refused exactly where a net gets stuck so. Which of several least paths is taken is free; where a net
+/// gets stuck, others are tried. Takes 18 bytes a node, and memory for the routes.
 pub fn route_nets(alloc: Global, grid: Grid, nets: &[NetPoints]) -> Result<Routes, RouteError>
     requires few_nodes { nodes grid < 4294967295 }
     requires few { length nets.now < 4294967295 }
@@ -125,5 +161,5 @@ pub fn route_nets(alloc: Global, grid: Grid, nets: &[NetPoints]) -> Result<Route
     ensures refused { IfErr result (λ e. IsRefusal grid nets.now e) }
 {
     let order = net_order(alloc, nets)?;
-    attempt(alloc, grid, nets, &order)
+    attempts(alloc, grid, nets, &order)
 }
