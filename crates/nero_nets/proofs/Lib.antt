@@ -1,0 +1,4 @@
+pub mod Congruent
+pub mod Routed
+pub mod Terminals
+pub mod Small
