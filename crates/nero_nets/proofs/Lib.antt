@@ -1,4 +1,4 @@
 pub mod Congruent
 pub mod Routed
-pub mod Terminals
+pub mod Pins
 pub mod Small

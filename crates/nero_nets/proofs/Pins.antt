@@ -1,11 +1,14 @@
 -- The terminals of a net, as they are read off a netlist in memory.
-use Rattle.std.proofs.Common.{◌≡◌, ◌≢◌, ◌⊎◌, inl, inr, ℕ, zero, suc, ◌+◌, ◌<◌, ◌≤◌, nat_eq, nat_lt, Bool, true, false, cond, ◌&&◌, List, [], ◌∷◌, ◌++◌, map, filter, length, take, drop, slice_index, Option, Some, None, refl, sym, ap, subst, ◌∙◌, arith, eq-eqb}
+use Rattle.std.proofs.Common.{◌≡◌, ◌≢◌, ◌⊎◌, inl, inr, ℕ, zero, suc, ◌+◌, ◌<◌, ◌≤◌, nat_eq, nat_lt, Bool, true, false, cond, not, ◌&&◌, List, [], ◌∷◌, ◌++◌, map, filter, length, take, drop, slice_index, Option, Some, None, refl, sym, ap, subst, ◌∙◌, arith, eq-eqb, append-nil, append_assoc}
 use Rattle.std.specs.Prelude.{IsTrue, flat_map, slice_get}
 use Rattle.std.specs.Ordering.{is_lt, ordering_reverse}
 use Rattle.std.specs.declared.cmp.Ordering.{Ordering}
 use Rattle.std.specs.declared.cmp.Ordering.TheVariants.{Less, Equal, Greater}
 use Rattle.std.proofs.lemmas.Bool.{eqb-true, cond-true, cond-false}
-use Rattle.std.proofs.lemmas.List.{length-map, length-append}
+use Rattle.std.proofs.lemmas.List.{take_more, length-map, length-append, length-take-le, length-drop}
+use Rattle.std.proofs.lemmas.List.Folds.{length-flat_map-take}
+use Rattle.std.proofs.lemmas.Grind.{flat_map-append}
+use Rattle.std.proofs.lemmas.Option.{slice_get_within, get_or_from_slice_get}
 use Rattle.std.proofs.lemmas.List.Elements.{filter-append}
 use mathlib.Core.Path.{fun_ext}
 use Rattle.vlsi_base.specs.declared.name.Name.{Name}
@@ -25,7 +28,10 @@ use Rattle.cell_model.proofs.Members.{All-In, In-map}
 use Rattle.cell_checks.specs.Checked.{IsChecked as HasPassed}
 use Rattle.cell_pins.specs.Pins.{supply, with_supply, all_ports}
 use Rattle.cell_pins.proofs.Ports.{before_trans, before_itself, Sorted, sorted_of, sorted_supply, with_cases}
-use Rattle.net_core.specs.Netlist.{Instance as Held, Netlist as InMemory}
+use Rattle.net_core.specs.declared.frame.Node.{Node as Standing}
+use Rattle.net_core.specs.Netlist.{Instance as Held, Netlist as InMemory, IsNetlist, HasClass, terminals, terminals_of}
+use Rattle.net_core.specs.Frame.{instance_of, node_pins, AreNumbered}
+use Rattle.net_core.proofs.Frames.{mapped, terminals_count}
 use Rattle.net_core.specs.Places.{IsThere, Stands}
 use Rattle.net_meaning.specs.Netlist.{Member, AbstractNetlist, pin_of}
 use Rattle.net_right.specs.View.{member_of, IsSeenAs}
@@ -35,14 +41,17 @@ use Rattle.net_right.proofs.Ports.{supplies_differ}
 use Rattle.net_right.proofs.Terminals.{seen_ports, seen_instances}
 use Rattle.net_drawing.specs.Drawing.{Numbering, on_net}
 use Rattle.net_drawing.proofs.Coding.{In_get}
-use Rattle.ocp_rows.specs.Placement.{Placement}
+use Rattle.ocp_rows.specs.Placement.{Placement, net_count}
 use Rattle.ocp_rows.specs.Length.{instance_point}
 use Rattle.ocp_place.specs.Drawable.{IsDrawableIn}
-use Rattle.ocp_place.specs.Nets.{is_signal, signal_ports, place_among, net_classes, net_number}
-use Rattle.ocp_place.specs.Placed.{InRow, AreRowsOf, rows_of, stood_in}
-use Rattle.ocp_place.proofs.Seen.{own_cell}
+use Rattle.ocp_place.specs.Nets.{is_signal, signal_ports, driven, is_among, place_among, net_classes, net_number}
+use Rattle.ocp_place.specs.Placed.{InRow, AreRowsOf, IsRowPlacementOf, rows_of, stood_in}
+use Rattle.ocp_place.proofs.Classes.{known, known_seen}
+use Rattle.ocp_place.proofs.Seen.{own_cell, orderly}
+use Rattle.ocp_place.proofs.RowSteps.{class_there}
 use Rattle.ocp_place.proofs.RowSited.{stood_listed}
-use Rattle.nero_tracks.proofs.Drivers.{signal_true}
+use Rattle.nero_tracks.proofs.Drivers.{signal_true, nets_differ}
+use Rattle.nero_tracks.proofs.Numbered.{nets_are_counted}
 use Rattle.grid_core.specs.declared.grid.Node.{Node}
 use Rattle.maze_drawing.specs.Points.{node_at, signal_names, pin_nodes, instance_nodes, terminal_nodes, port_nodes, net_nodes}
 use Rattle.nero_nets.specs.Routed.{port_terminals, instance_terminals, net_terminals}
@@ -291,3 +300,77 @@ class_pins_are n class owner (pin ∷ pins) [] many each = absurd (omega (arith,
 class_pins_are n class owner (pin ∷ pins) (c ∷ own) many each =
     ap (λ (d : ℕ). pin_if (is_wanted class d pin) owner pin ++ class_pins class owner pins own) (sym (each 0 pin refl))
     ∙ ap (λ ts. pin_if (is_wanted class (n.class (pin_of owner pin)) pin) owner pin ++ ts) (class_pins_are n class owner pins own (omega (arith, many)) (λ place name s. each (suc place) name s))
+
+-- ---- the pins of one instance more
+
+module _ (n : InMemory) (sound : IsNetlist n) (nodes : List Standing) (seen_as : map (instance_of n.models) nodes ≡ n.instances) (numbered : AreNumbered n.ports nodes) (i : ℕ) (node : Standing)
+    (s : Stands nodes i node) where
+  -- the classes of its pins are there
+  pub node_fits : node.first + length node.pins ≤ length n.classes
+  node_fits =
+      let first : node.first ≡ length n.ports + length (flat_map node_pins (take i nodes)) =
+      subst (λ (x : Standing). x.first ≡ length n.ports + length (flat_map node_pins (take i nodes))) (get_or_from_slice_get nodes i node node s) (numbered i node (slice_get_within nodes i node s)) in
+      let own : length (flat_map node_pins (take i nodes)) + length (node_pins node) ≤ length (flat_map node_pins nodes) =
+      subst (λ (x : Standing). length (flat_map node_pins (take i nodes)) + length (node_pins x) ≤ length (flat_map node_pins nodes)) (get_or_from_slice_get nodes i node node s)
+      (length-flat_map-take node_pins nodes i node (slice_get_within nodes i node s)) in
+      let pins : length (node_pins node) ≡ length node.pins = length-map node.pins _ in
+      let all : length (terminals n) ≡ length n.ports + length (flat_map node_pins nodes) =
+      ap (λ (xs : List Held). length (terminals_of n.ports xs)) (sym seen_as) ∙ terminals_count n.ports n.models nodes in
+      let each = sound.each in
+      omega (arith, first, own, pins, all, each)
+
+  module _ (own : List ℕ) (own_is : own ≡ take (length node.pins) (drop node.first n.classes)) where
+    pub own_many : length own ≡ length node.pins
+    own_many =
+        let fits = node_fits in
+        let d = length-drop node.first n.classes in
+        ap length own_is ∙ length-take-le (length node.pins) (drop node.first n.classes) (omega (arith, fits, d))
+
+    abbrev one : Held
+    one = instance_of n.models node
+
+    own_are : (k : AbstractNetlist) → IsSeenAs n k → (class : ℕ) → class_pins class node.name node.pins own ≡ pins_in k class one
+    own_are k seen class =
+        let many = own_many in
+        class_pins_are k class node.name node.pins own (omega (arith, many)) (λ place name named.
+        seen.classes.each (pin_of node.name name) (slice_index own place)
+        (subst (λ (cs : List ℕ). HasClass n (pin_of node.name name) (slice_index cs place)) (sym own_is) (class_there n n.models nodes sound seen_as numbered i node s place name named)))
+
+    pub next_pins : (k : AbstractNetlist) → IsSeenAs n k → (class : ℕ) (before old new : List Terminal) → new ≡ old ++ class_pins class node.name node.pins own
+        → old ≡ before ++ flat_map (pins_in k class) (take i n.instances) → new ≡ before ++ flat_map (pins_in k class) (take (i + 1) n.instances)
+    next_pins k seen class before old new now so_far =
+        let stands : Stands n.instances i one = subst (λ (is : List Held). Stands is i one) seen_as (mapped (instance_of n.models) nodes i node s) in
+        let more : take (i + 1) n.instances ≡ take i n.instances ++ one ∷ [] =
+        take_more n.instances i one (slice_get_within n.instances i one stands) ∙ ap (λ (x : Held). take i n.instances ++ x ∷ []) (get_or_from_slice_get n.instances i one one stands) in
+        let f = pins_in k class in
+        let rest = flat_map f (take i n.instances) in
+        now ∙ ap (λ ts. ts ++ class_pins class node.name node.pins own) so_far ∙ ap (λ ts. (before ++ rest) ++ ts) (own_are k seen class)
+        ∙ append_assoc before rest (f one)
+        ∙ ap (λ ts. before ++ (rest ++ ts)) (sym (append-nil (f one)))
+        ∙ ap (λ ts. before ++ ts) (sym (flat_map-append f (take i n.instances) (one ∷ [])))
+        ∙ ap (λ is. before ++ flat_map f is) (sym more)
+
+-- ---- the classes of nets
+
+module _ (l : Library) (n : InMemory) (p : InRow) (placed : IsRowPlacementOf l n p) (nets : List ℕ) (are : nets ≡ p.ports ++ filter (λ class. not (is_among p.ports class)) p.drivers) where
+  nets_are : (k : AbstractNetlist) → IsSeenAs n k → nets ≡ net_classes k l
+  nets_are k seen =
+      let rows = placed.rows k seen in
+      are ∙ ap (λ (ds : List ℕ). p.ports ++ filter (λ class. not (is_among p.ports class)) ds) rows.drivers
+      ∙ ap (λ (ps : List ℕ). ps ++ filter (λ class. not (is_among ps class)) (driven k l k.instances)) rows.ports
+
+  pub net_below : (net : ℕ) → ((k : AbstractNetlist) → IsSeenAs n k → net < net_count k) → net < length nets
+  net_below net below =
+      let k = known n in
+      let seen = known_seen n placed.drawable.sound in
+      let a = below k seen in
+      let b = nets_are_counted k l (orderly l n placed.passed placed.drawable k seen) in
+      let c = ap length (nets_are k seen) in
+      omega (arith, a, b, c)
+
+  -- the terminals of a net are its port and the pins in its class
+  pub net_is : (net class : ℕ) → slice_get nets net ≡ Some class → (k : AbstractNetlist) → IsSeenAs n k
+      → port_terminals (slice_get (signals_among n.ports) net) ++ flat_map (pins_in k class) n.instances ≡ net_terminals k l (net_number k l) (rows_of k p) (stood_in k p) net
+  net_is net class at k seen =
+      sym (terminals_are l n placed.passed placed.drawable k seen net class (nets_differ k l (orderly l n placed.passed placed.drawable k seen))
+      (subst (λ (ks : List ℕ). slice_get ks net ≡ Some class) (nets_are k seen) at) p (placed.rows k seen))
