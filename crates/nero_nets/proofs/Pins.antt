@@ -1,10 +1,11 @@
 -- The terminals of a net, as they are read off a netlist in memory.
-use Rattle.std.proofs.Common.{◌≡◌, ◌≢◌, ◌⊎◌, inl, inr, ℕ, zero, suc, ◌+◌, ◌<◌, ◌≤◌, nat_eq, nat_lt, Bool, true, false, cond, not, ◌&&◌, List, [], ◌∷◌, ◌++◌, map, filter, length, take, drop, slice_index, Option, Some, None, refl, sym, ap, subst, ◌∙◌, arith, eq-eqb, append-nil, append_assoc}
+use Rattle.std.proofs.Common.{◌≡◌, ◌≢◌, ◌⊎◌, inl, inr, ℕ, zero, suc, ◌+◌, ◌<◌, ◌≤◌, nat_eq, nat_lt, Bool, true, false, cond, not, if◌then◌else◌, ◌&&◌, List, [], ◌∷◌, ◌++◌, map, filter, length, take, drop, slice_index, Option, Some, None, refl, sym, ap, subst, ◌∙◌, arith, eq-eqb, append-nil, append_assoc}
 use Rattle.std.specs.Prelude.{IsTrue, flat_map, slice_get}
 use Rattle.std.specs.Ordering.{is_lt, ordering_reverse}
 use Rattle.std.specs.declared.cmp.Ordering.{Ordering}
 use Rattle.std.specs.declared.cmp.Ordering.TheVariants.{Less, Equal, Greater}
 use Rattle.std.proofs.lemmas.Bool.{eqb-true, cond-true, cond-false}
+use Rattle.std.proofs.lemmas.Bool.Decides.{nat_tests}
 use Rattle.std.proofs.lemmas.List.{take_more, length-map, length-append, length-take-le, length-drop}
 use Rattle.std.proofs.lemmas.List.Folds.{length-flat_map-take}
 use Rattle.std.proofs.lemmas.Grind.{flat_map-append}
@@ -32,6 +33,7 @@ use Rattle.net_core.specs.declared.frame.Node.{Node as Standing}
 use Rattle.net_core.specs.Netlist.{Instance as Held, Netlist as InMemory, IsNetlist, HasClass, terminals, terminals_of}
 use Rattle.net_core.specs.Frame.{instance_of, node_pins, AreNumbered}
 use Rattle.net_core.proofs.Frames.{mapped, terminals_count}
+use Rattle.net_core.proofs.Rings.{at_place}
 use Rattle.net_core.specs.Places.{IsThere, Stands}
 use Rattle.net_meaning.specs.Netlist.{Member, AbstractNetlist, pin_of}
 use Rattle.net_right.specs.View.{member_of, IsSeenAs}
@@ -53,7 +55,7 @@ use Rattle.ocp_place.proofs.RowSited.{stood_listed}
 use Rattle.nero_tracks.proofs.Drivers.{signal_true, nets_differ}
 use Rattle.nero_tracks.proofs.Numbered.{nets_are_counted}
 use Rattle.grid_core.specs.declared.grid.Node.{Node}
-use Rattle.maze_drawing.specs.Points.{node_at, signal_names, pin_nodes, instance_nodes, terminal_nodes, port_nodes, net_nodes}
+use Rattle.maze_drawing.specs.Points.{node_at, signal_names, pin_nodes, instance_nodes, terminal_nodes, port_node, port_nodes, net_nodes}
 use Rattle.nero_nets.specs.Routed.{port_terminals, instance_terminals, net_terminals}
 use Rattle.nero_nets.specs.Terminals.{signals_among, pin_if, is_wanted, class_pins, pins_in}
 
@@ -175,9 +177,9 @@ place_of (k ∷ ks) (suc j) c d e = by (nat_eq k c) refl (place_of ks j c d.1 e)
   by true f rest = absurd (d.0 (subst (λ (x : ℕ). In x ks) (sym (eqb-true k c f)) (In_get ks j c e)))
   by false f rest = cond-false (nat_eq k c) 0 (suc (place_among ks c)) f ∙ ap suc rest
 
-at_place : (ks : List ℕ) (j c : ℕ) → j < length ks → place_among ks c ≡ j → slice_get ks j ≡ Some c
-at_place [] j c low e = absurd (omega (arith, low))
-at_place (k ∷ ks) j c low e = by (nat_eq k c) refl (λ i low e. at_place ks i c low e) where
+place_back : (ks : List ℕ) (j c : ℕ) → j < length ks → place_among ks c ≡ j → slice_get ks j ≡ Some c
+place_back [] j c low e = absurd (omega (arith, low))
+place_back (k ∷ ks) j c low e = by (nat_eq k c) refl (λ i low e. place_back ks i c low e) where
   later : (i : ℕ) → i < suc (length ks) → suc (place_among ks c) ≡ i → ((i : ℕ) → i < length ks → place_among ks c ≡ i → slice_get ks i ≡ Some c)
       → slice_get (k ∷ ks) i ≡ Some c
   later zero low e rest = absurd (omega (arith, e))
@@ -192,7 +194,7 @@ at_place (k ∷ ks) j c low e = by (nat_eq k c) refl (λ i low e. at_place ks i 
 -- a class is that of net j exactly where its number is j
 pub number_test : (ks : List ℕ) (j class c : ℕ) → AllDifferent ks → slice_get ks j ≡ Some class → nat_eq (place_among ks c) j ≡ nat_eq c class
 number_test ks j class c differ at =
-    same_tests (place_among ks c) j c class (λ e. same (at_place ks j c (In_below ks j class at) e)) (λ e. place_of ks j c differ (at ∙ ap Some (sym e)))
+    same_tests (place_among ks c) j c class (λ e. same (place_back ks j c (In_below ks j class at) e)) (λ e. place_of ks j c differ (at ∙ ap Some (sym e)))
   where
     same : slice_get ks j ≡ Some c → c ≡ class
     same e = let f : Some c ≡ Some class = sym e ∙ at in cc f
@@ -278,13 +280,18 @@ module _ (n : AbstractNetlist) (l : Library) (net : Numbering) (j : ℕ) where
       omega (arith, a, b, c, d)
 
   port_points : (names : List Name) (j : ℕ) (q : Node) → length (if nat_lt j (length names) then q ∷ [] else []) ≤ length (port_terminals (slice_get names j))
-  port_points [] j q = omega arith
-  port_points (name ∷ names) zero q = omega arith
-  port_points (name ∷ names) (suc j) q = port_points names j q
+  port_points names j q = by (nat_lt j (length names)) (slice_get names j) refl refl where
+    by : (b : Bool) (o : Option Name) → nat_lt j (length names) ≡ b → slice_get names j ≡ o → length (if b then q ∷ [] else []) ≤ length (port_terminals o)
+    by false o d e = omega arith
+    by true (Some name) d e = omega arith
+    by true None d e =
+        let low : j < length names = grind (arith, nat_tests) in
+        let at = at_place names j low in
+        absurd (let f : None ≡ Some at.0 = sym e ∙ at.1 in cc f)
 
   pub few_points : (p : Placement) (is : List Instance) → length (net_nodes n l net p is j) ≤ length (net_terminals n l net p is j)
   few_points p is =
-      let a = port_points p.ports j _ in
+      let a = port_points p.ports j (port_node l p j) in
       let b = all_points is in
       let c = length-append (port_nodes l p j) (terminal_nodes n l net is j) in
       let d = length-append (port_terminals (slice_get p.ports j)) (flat_map (instance_terminals n l net j) is) in

@@ -1,6 +1,7 @@
 -- Routes over the points of nets in memory are routes over those of the netlist of layouts that it is seen as.
 use Rattle.std.proofs.Common.{◌≡◌, ℕ, ◌+◌, ◌-◌, ◌*◌, ◌/◌, ◌<◌, ◌≤◌, ◌^◌, List, [], ◌∷◌, ◌++◌, length, Option, Some, None, refl, sym, ap, ap₂, ◌∙◌, subst, arith}
-use Rattle.std.specs.Prelude.{ℤ, pos, reverse, flat_map, slice_get}
+use Rattle.std.specs.Prelude.{ℤ, pos, reverse, flat_map, slice_get, slice_index_or}
+use Rattle.std.proofs.lemmas.Option.{slice_get_read}
 use Rattle.std.proofs.lemmas.List.{reverse-reverse, length-map}
 use Rattle.std.proofs.lemmas.Nat.{mul-le}
 use Rattle.vlsi_base.specs.Member.{In, here, there, AllDifferent}
@@ -28,9 +29,11 @@ use Rattle.maze_nets.specs.Nets as maze
 use Rattle.maze_nets.specs.Answers.{AreOrdered, AreStuck}
 use Rattle.maze_nets.proofs.Lists.{get_below, reserved_below}
 use Rattle.maze_nets.proofs.Taking.{In_reverse}
-use Rattle.ocp_grid.specs.Law.{ArePointsApart}
+use Rattle.ocp_grid.specs.Law.{ArePointsApart, PointsAreApart, PlacementsAreInRows}
 use Rattle.ocp_grid.specs.Points.{grid_of, nodes_of, reserved_of, ArePointsOf, ArePointsIn, HasFewNodes}
 use Rattle.nero_nets.specs.Routed.{net_reach, net_terminals, AreInOrder, IsStuckBefore}
+use Rattle.nero_nets.specs.Answers.{AreRouted}
+use Rattle.nero_nets.proofs.Pins.{few_points}
 use Rattle.nero_nets.proofs.Congruent.{AreSame, order_same, routes_same, whole_same, done_same, stuck_same}
 
 In_back : (xs : List ℕ) (x : ℕ) → In x xs → In x (reverse xs)
@@ -158,3 +161,60 @@ module _ (l : Library) (n : InMemory) (p : InRow) (placed : IsRowPlacementOf l n
       let b = seen_classes n one one_seen in
       let c = turn_few 0 n.count n.classes placed.drawable.sound.turns in
       omega (arith, few, a, b, c)
+
+-- ---- of a netlist in memory
+
+module _ (l : Library) (n : InMemory) (p : InRow) (metals : ℕ) (placed : IsRowPlacementOf l n p) (some : 3 ≤ metals) (nets : List NetPoints) (are : ArePointsIn l n p nets) (g : Grid)
+    (is : (c : Library) (k : AbstractNetlist) → AreRowsOf k c p → g ≡ grid_of metals k c p) where
+  grid_is : (k : AbstractNetlist) → IsSeenAs n k → g ≡ grid_of metals k l p
+  grid_is k seen = is l k (placed.rows k seen)
+
+  abbrev any : AbstractNetlist
+  any = known n
+
+  pub few_nodes : HasFewNodes l n p metals → nodes g < 4294967295
+  few_nodes few = subst (λ (x : Grid). nodes x < 4294967295) (sym (grid_is any (one_seen l n p placed))) (few any (one_seen l n p placed))
+
+  pub routable_all : PointsAreApart → PlacementsAreInRows → AreRoutable g nets
+  routable_all apart in_rows =
+      let seen = one_seen l n p placed in
+      routable any l p nets (are any seen) g
+      (subst (λ (x : Grid). ArePointsApart x (net_count any) (nodes_of any l p) (reserved_of any l p)) (sym (grid_is any seen))
+      (apart any l (net_number any l) (rows_of any p) (stood_in any p) metals (in_rows l n p any placed seen) some))
+
+  module _ (routes : NetRoutes) where
+    pub trees_as : (k : AbstractNetlist) → IsSeenAs n k → AreRoutes g (net_reserved nets) (net_points nets) (length nets) routes
+        → AreRoutes (grid_of metals k l p) (reserved_of k l p) (nodes_of k l p) (net_count k) routes
+    trees_as k seen h =
+        are_routes k l p nets (are k seen) metals routes (subst (λ (x : Grid). AreRoutes x (net_reserved nets) (net_points nets) (length nets) routes) (grid_is k seen) h)
+
+    pub routed : AreRoutes g (net_reserved nets) (net_points nets) (length nets) routes → AreWhole (net_points nets) (length nets) routes → AreOrdered g nets routes
+        → AreRouted l n p metals routes
+    routed h whole ordered = record {
+      trees = λ k seen. trees_as k seen h;
+      whole = λ k seen. are_whole k l p nets (are k seen) metals routes whole;
+      ordered = λ k seen. in_order k l p nets (are k seen) metals routes (subst (λ (x : Grid). AreOrdered x nets routes) (grid_is k seen) ordered);
+    }
+
+    stuck_as : (net at : ℕ) → AreStuck g nets routes net at → (k : AbstractNetlist) → IsSeenAs n k → AreStuck (grid_of metals k l p) nets routes net at
+    stuck_as net at stuck k seen = subst (λ (x : Grid). AreStuck x nets routes net at) (grid_is k seen) stuck
+
+    pub net_known : (net at : ℕ) → AreStuck g nets routes net at → (k : AbstractNetlist) → IsSeenAs n k → net < net_count k
+    net_known net at stuck k seen = subst (λ (m : ℕ). net < m) (are k seen).many (net_there k l p nets (are k seen) metals routes net at (stuck_as net at stuck k seen))
+
+    -- where the terminals of the net are these
+    module _ (net at : ℕ) (stuck : AreStuck g nets routes net at) (terminals : List Terminal)
+        (named : (k : AbstractNetlist) → IsSeenAs n k → terminals ≡ net_terminals k l (net_number k l) (rows_of k p) (stood_in k p) net) where
+      pub terminal_there : at < length terminals
+      terminal_there =
+          let seen = one_seen l n p placed in
+          let a = point_there any l p nets (are any seen) metals routes net at (stuck_as net at stuck any seen) in
+          let b = few_points any l (net_number any l) net (rows_of any p) (stood_in any p) in
+          let c = ap length (named any seen) in
+          omega (arith, a, b, c)
+
+      pub refused : (t : Terminal) → t ≡ slice_index_or terminals at t → (k : AbstractNetlist) → IsSeenAs n k
+          → IsStuckBefore k l (net_number k l) (rows_of k p) (stood_in k p) metals routes net t
+      refused t e k seen =
+          stuck_before k l p nets (are k seen) metals routes net at t (stuck_as net at stuck k seen)
+          (subst (λ ts. slice_get ts at ≡ Some t) (named k seen) (slice_get_read terminals (length terminals) at t refl terminal_there e))
