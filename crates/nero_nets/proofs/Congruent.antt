@@ -1,11 +1,11 @@
 -- Routes over points that are the same for each net.
-use Rattle.std.proofs.Common.{◌≡◌, ◌≢◌, ℕ, ◌<◌, Bool, ◌||◌, ◌&&◌, nat_eq, nat_lt, List, [], ◌∷◌, ◌++◌, Option, Some, None, sym, ap, ◌∙◌, subst, arith, length}
-use Rattle.std.specs.Prelude.{◌↔◌, IsTrue, AllPairs, reverse, slice_get, slice_index_or}
+use Rattle.std.proofs.Common.{◌≡◌, ℕ, ◌<◌, Bool, ◌||◌, ◌&&◌, nat_eq, nat_lt, List, [], ◌∷◌, ◌++◌, Option, Some, None, sym, subst, arith}
+use Rattle.std.specs.Prelude.{◌↔◌, IsTrue, slice_index_or}
 use Rattle.vlsi_base.specs.Member.{In, here, there}
 use Rattle.grid_core.specs.declared.grid.Grid.{Grid}
 use Rattle.grid_core.specs.declared.grid.Node.{Node}
 use Rattle.grid_core.specs.Routes.{Tree, NetRoutes, tree_nodes}
-use Rattle.grid_core.specs.Trees.{Reach, IsTreeOver, IsWhole, IsFreeFor, IsFreeAfter, AreRoutes, AreWhole, IsLeastTree, AreDone, next_point, net_precedes, IsNetOrder, IsStuckAt}
+use Rattle.grid_core.specs.Trees.{Reach, IsTreeOver, IsWhole, IsFreeFor, IsFreeAfter, AreRoutes, AreWhole, IsLeastTree, AreDone, next_point, IsNetOrder, IsStuckAt}
 use Rattle.maze_nets.proofs.Growth.{path_moved, tree_moved}
 use Rattle.maze_nets.proofs.Lists.{place_in}
 

@@ -1,6 +1,6 @@
 -- The terminals of a net, as they are read off a netlist in memory.
 use Rattle.std.proofs.Common.{◌≡◌, ◌≢◌, ◌⊎◌, inl, inr, ℕ, zero, suc, ◌+◌, ◌<◌, ◌≤◌, nat_eq, nat_lt, Bool, true, false, cond, not, if◌then◌else◌, ◌&&◌, List, [], ◌∷◌, ◌++◌, map, filter, length, take, drop, slice_index, Option, Some, None, refl, sym, ap, subst, ◌∙◌, arith, eq-eqb, append-nil, append_assoc}
-use Rattle.std.specs.Prelude.{IsTrue, flat_map, slice_get}
+use Rattle.std.specs.Prelude.{flat_map, slice_get}
 use Rattle.std.specs.Ordering.{is_lt, ordering_reverse}
 use Rattle.std.specs.declared.cmp.Ordering.{Ordering}
 use Rattle.std.specs.declared.cmp.Ordering.TheVariants.{Less, Equal, Greater}
@@ -34,7 +34,7 @@ use Rattle.net_core.specs.Netlist.{Instance as Held, Netlist as InMemory, IsNetl
 use Rattle.net_core.specs.Frame.{instance_of, node_pins, AreNumbered}
 use Rattle.net_core.proofs.Frames.{mapped, terminals_count}
 use Rattle.net_core.proofs.Rings.{at_place}
-use Rattle.net_core.specs.Places.{IsThere, Stands}
+use Rattle.net_core.specs.Places.{Stands}
 use Rattle.net_meaning.specs.Netlist.{Member, AbstractNetlist, pin_of}
 use Rattle.net_right.specs.View.{member_of, IsSeenAs}
 use Rattle.net_right.proofs.Lists.{in_place}
@@ -120,14 +120,14 @@ parted name [] sorted apart = refl
 parted name (p ∷ ps) sorted apart = elim (either_side p.name name (apart p here)) [
   | inl e ↦
       ap (λ qs. qs ++ filter (λ q. comes_before name q.name) (p ∷ ps))
-          (cond-true (comes_before p.name name) (p ∷ filter (λ q. comes_before q.name name) ps) (filter (λ q. comes_before q.name name) ps) e)
+      (cond-true (comes_before p.name name) (p ∷ filter (λ q. comes_before q.name name) ps) (filter (λ q. comes_before q.name name) ps) e)
       ∙ ap (λ qs. (p ∷ filter (λ q. comes_before q.name name) ps) ++ qs)
-          (cond-false (comes_before name p.name) (p ∷ filter (λ q. comes_before name q.name) ps) (filter (λ q. comes_before name q.name) ps) (not_both p.name name e))
+      (cond-false (comes_before name p.name) (p ∷ filter (λ q. comes_before name q.name) ps) (filter (λ q. comes_before name q.name) ps) (not_both p.name name e))
       ∙ ap (λ qs. p ∷ qs) (parted name ps sorted.1 (λ q i. apart q (there i)))
   | inr e ↦
       let behind : (q : Port) → In q (p ∷ ps) → comes_before name q.name ≡ true = λ q i. later q i e in
       ap (λ qs. qs ++ filter (λ q. comes_before name q.name) (p ∷ ps))
-          (none_kept (λ (q : Port). comes_before q.name name) (p ∷ ps) (λ q i. not_both name q.name (behind q i)))
+      (none_kept (λ (q : Port). comes_before q.name name) (p ∷ ps) (λ q i. not_both name q.name (behind q i)))
       ∙ all_kept (λ (q : Port). comes_before name q.name) (p ∷ ps) behind
 ] where
   later : (q : Port) → In q (p ∷ ps) → comes_before name p.name ≡ true → comes_before name q.name ≡ true
@@ -237,7 +237,7 @@ module _ (l : Library) (n : InMemory) (passed : HasPassed false l) (given : IsDr
       ∙ ap (tested (λ pin. on_net k net j (pin_of i.name pin)) i.name) (sym (signal_pins c.cell formed) ∙ ap (filter is_signal) (sym c.pins))
       ∙ sym (flat_kept (λ pin. on_net k net j (pin_of i.name pin)) i.name i.pins)
       ∙ ap (λ (test : Name → Bool). tested (λ pin. test pin && is_signal pin) i.name i.pins)
-          (fun_ext (λ pin. number_test (net_classes k l) j class (k.class (pin_of i.name pin)) differ at))
+      (fun_ext (λ pin. number_test (net_classes k l) j class (k.class (pin_of i.name pin)) differ at))
 
   pins_are : (p : InRow) → AreRowsOf k l p → flat_map (instance_terminals k l net j) (stood_in k p) ≡ flat_map (pins_in k class) n.instances
   pins_are p rows =

@@ -1,5 +1,5 @@
 -- The grid over an even placement has few nodes.
-use Rattle.std.proofs.Common.{◌≡◌, ℕ, zero, suc, ◌+◌, ◌-◌, ◌*◌, ◌/◌, ◌<◌, ◌≤◌, max, ◌⊎◌, inl, inr, Bool, true, false, cond, List, [], ◌∷◌, length, map, filter, slice_index, sum, refl, sym, ap, subst, ◌∙◌, arith}
+use Rattle.std.proofs.Common.{◌≡◌, ℕ, zero, suc, ◌+◌, ◌-◌, ◌*◌, ◌/◌, ◌<◌, ◌≤◌, max, ◌⊎◌, inl, inr, Bool, true, false, cond, List, [], ◌∷◌, length, map, filter, slice_index, sum, sym, ap, subst, ◌∙◌, arith}
 use Rattle.std.specs.Prelude.{ℤ, pos}
 use Rattle.std.specs.Int.{int_max}
 use Rattle.std.specs.List.{All}
@@ -16,7 +16,7 @@ use Rattle.net_core.specs.Netlist.{Netlist as InMemory}
 use Rattle.net_meaning.specs.Netlist.{Member, AbstractNetlist}
 use Rattle.net_right.specs.View.{member_of, IsSeenAs}
 use Rattle.net_right.proofs.Terminals.{seen_ports, seen_instances}
-use Rattle.ocp_rows.specs.Placement.{natural, model_width, rows_width, block_width, block_columns}
+use Rattle.ocp_rows.specs.Placement.{natural, model_width, rows_width, block_columns}
 use Rattle.ocp_place.specs.Nets.{is_signal, signal_ports}
 use Rattle.ocp_place.specs.Placed.{InRow, AreRowsOf, IsRowPlacementOf, IsEvenPlacement, rows_of}
 use Rattle.ocp_place.specs.Stood.{member, named_rows, instance_widths, instance_columns}

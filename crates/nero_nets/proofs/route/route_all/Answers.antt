@@ -1,4 +1,4 @@
-use Rattle.std.proofs.Common.{◌≡◌, ◌<◌, ◌^◌, List, length, sym, subst, arith}
+use Rattle.std.proofs.Common.{◌<◌, ◌^◌, List, length, sym, subst, arith}
 use Rattle.grid_core.specs.Shown.{tree_in}
 use Rattle.maze_nets.specs.declared.points.NetPoints.{NetPoints}
 use Rattle.maze_nets.specs.Answers.{IsRefusal as IsStopped}
