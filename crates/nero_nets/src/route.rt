@@ -6,14 +6,14 @@ ghost use Rattle.ocp_grid.specs.Points.{HasFewNodes};
 ghost use Rattle.nero_nets.specs.Answers.{AreRouted, IsRefusal};
 
 use crate::error::RouteError;
-use crate::terminals::terminal_at;
+use crate::terminals::net_terminals;
 use cell_checks::Library;
 use grid_core::Routes;
-use maze_nets::route_nets;
+use maze_nets::{RouteError as Unrouted, route_nets};
 use net_core::Netlist;
-use ocp_grid::{grid_over, net_points};
+use ocp_grid::{grid_over, net_points, placements_are_in_rows, points_are_apart};
 use ocp_place::Placement;
-use std::alloc::{AllocError, Global};
+use std::alloc::Global;
 
 /// The routes of all nets of a netlist that is placed in rows, on the metals from 2 up to this one: by half perimeter, then by number,
 /// each by least paths from its first point on, beside the trees of those before it and what is reserved for others. Refused exactly
@@ -31,4 +31,21 @@ pub fn route_all(
     ensures routed { IfOk result (λ r. AreRouted library.now netlist.now placement.now metals (tree_in r)) }
     ensures refused { IfErr result (λ e. IsRefusal library.now netlist.now placement.now metals e) }
 {
+    placements_are_in_rows();
+    points_are_apart();
+    let _ = netlist.classes();
+    let grid = grid_over(placement, metals);
+    let points = net_points(alloc, placement, netlist, library)?;
+    match route_nets(alloc, grid, &points) {
+        Ok(routes) => Ok(routes),
+        Err(Unrouted::Memory) => Err(RouteError::Memory),
+        Err(Unrouted::NoPath { net, point, so_far }) => {
+            let mut terminals = net_terminals(alloc, placement, netlist, library, net)?;
+            Err(RouteError::NoPath {
+                net,
+                terminal: terminals.swap_remove(point),
+                so_far,
+            })
+        }
+    }
 }
