@@ -12,7 +12,7 @@ use crate::error::RouteError;
 use crate::points::NetPoints;
 use crate::ranks::net_order;
 use crate::reserve::reserve;
-use crate::ties::{Ties, penalties};
+use crate::ties::{Ties, penalties_by};
 use grid_core::{Grid, Occupied, Routes};
 use nero_maze::Router;
 use std::alloc::{AllocError, Global};
@@ -80,7 +80,7 @@ fn begin(alloc: Global, grid: Grid, nets: &[NetPoints], ties: Ties) -> Result<Ro
 {
     let mut occupied = Occupied::begin(alloc, grid)?;
     reserve(&mut occupied, nets);
-    let penalties = penalties(alloc, grid, nets, ties)?;
+    let penalties = penalties_by(alloc, grid, nets, ties)?;
     Router::begin_with(alloc, occupied, penalties)
 }
 

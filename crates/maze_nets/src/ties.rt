@@ -70,7 +70,10 @@ impl Penalties {
 
     /// A node's penalty grows.
     fn add(&mut self, metal: u8, column: u64, row: u64, more: u8) {
-        if let Some(at) = self.place(metal, column, row) {
+        let Some(at) = self.place(metal, column, row) else {
+            return;
+        };
+        if at < self.marks.len() {
             self.marks[at] = self.marks[at].saturating_add(more);
         }
     }
@@ -120,7 +123,7 @@ fn edge_penalty(grid: &Grid, row: u32) -> u8 {
 }
 
 /// The penalties of the nodes of a grid over which these nets are routed; none where the first path is taken. Takes a byte for each node.
-pub(crate) fn penalties(
+pub(crate) fn penalties_by(
     alloc: Global,
     grid: Grid,
     nets: &[NetPoints],
