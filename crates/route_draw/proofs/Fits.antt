@@ -1,6 +1,6 @@
 -- Lines over rows that the format can hold and that are within its limits.
-use Rattle.std.proofs.Common.{◌≡◌, ℕ, zero, suc, ◌+◌, ◌-◌, ◌*◌, ◌<◌, ◌≤◌, Bool, true, false, List, [], ◌∷◌, ◌++◌, map, length, Option, None, Some, refl, sym, ap, subst, ◌∙◌, arith, if◌then◌else◌}
-use Rattle.std.specs.Prelude.{ℤ, pos, ◌/◌, flat_map, codes}
+use Rattle.std.proofs.Common.{◌≡◌, ℕ, zero, suc, ◌+◌, ◌-◌, ◌*◌, ◌<◌, ◌≤◌, Bool, true, false, List, [], ◌∷◌, ◌++◌, map, length, Option, None, Some, refl, sym, ap, subst, ◌∙◌, arith, rules, if◌then◌else◌}
+use Rattle.std.specs.Prelude.{ℤ, pos, ◌/◌, nat_eq, flat_map, codes}
 use Rattle.std.specs.List.{AllByRecursion}
 use Rattle.std.specs.Fmt.{decimal}
 use Rattle.std.proofs.lemmas.Int.{ints}
@@ -14,7 +14,6 @@ use Rattle.sym_geom.specs.declared.grid.TheConstants.{VSS_RAIL_Y, VDD_RAIL_Y, FI
 use Rattle.sym_geom.specs.declared.layer.Layer.{Layer}
 use Rattle.sym_geom.specs.declared.layer.Layer.TheVariants.{Alu}
 use Rattle.sym_geom.specs.declared.layer.Level.TheVariants.{One, Three}
-use Rattle.sym_geom.specs.declared.item.Contact.{Contact}
 use Rattle.sym_geom.specs.declared.item.Contact.TheVariants.{Via1, Via2, Via3, Via4, Via5}
 use Rattle.sym_geom.specs.declared.item.Item.{Item}
 use Rattle.sym_geom.specs.declared.item.Item.TheVariants as item
@@ -165,13 +164,15 @@ wire_fit name a b p q label =
     between_fit (is_level a.metal) (Alu (level_of a.metal)) (column_x a.column) (column_x b.column) (row_y a.row) (row_y b.row) name
     (near_column a.column p.column) (near_column b.column q.column) (near_row a.row p.row) (near_row b.row q.row) label
 
-pick_contact : (v : Bool) (c d : Contact) → IsContact c → IsContact d → IsContact (if v then c else d)
-pick_contact true c d p q = p
-pick_contact false c d p q = q
+contact_by : (a b c d : Bool) → IsContact (if a then Via2 else if b then Via3 else if c then Via4 else if d then Via5 else Via1)
+contact_by true b c d = tt
+contact_by false true c d = tt
+contact_by false false true d = tt
+contact_by false false false true = tt
+contact_by false false false false = tt
 
 contact_plain : (m : ℕ) → IsContact (contact_of m)
-contact_plain m =
-    pick_contact _ Via2 _ tt (pick_contact _ Via3 _ tt (pick_contact _ Via4 _ tt (pick_contact _ Via5 Via1 tt tt)))
+contact_plain m = contact_by (nat_eq m 2) (nat_eq m 3) (nat_eq m 4) (nat_eq m 5)
 
 pub via_fit : (name : Option Name) (v : Node) → IsNearNode v → IsGoodLabel name → IsFit (via_item name v)
 via_fit name v near label = record {

@@ -1,12 +1,11 @@
 -- The figure of routes over rows can be written, with or without marks.
-use Rattle.std.proofs.Common.{◌≡◌, ◌≢◌, inl, inr, ⊎_elim, ℕ, suc, ◌+◌, ◌*◌, ◌<◌, ◌≤◌, List, [], ◌∷◌, ◌++◌, map, length, max, Option, Some, refl, sym, ap, subst, ◌∙◌, arith, length-append}
+use Rattle.std.proofs.Common.{◌≡◌, ◌≢◌, inl, inr, ⊎_elim, ℕ, ◌+◌, ◌*◌, ◌<◌, ◌≤◌, Bool, false, not, List, [], ◌∷◌, ◌++◌, map, length, max, Option, Some, refl, sym, ap, subst, ◌∙◌, arith, length-append}
 use Rattle.std.specs.Prelude.{ℤ, pos, ◌+ℤ◌, ◌/◌, AllPairs, flat_map, slice_get}
 use Rattle.std.specs.Int.{int_max}
 use Rattle.std.specs.List.{AllByRecursion}
 use Rattle.std.proofs.lemmas.Int.{ints, int_max_is}
 use Rattle.std.proofs.lemmas.List.{length-map}
 use Rattle.std.proofs.lemmas.List.Sorted.{length_permutation, IsPermutation-sym}
-use Rattle.std.proofs.lemmas.Option.{slice_get_within}
 use Rattle.vlsi_base.specs.declared.name.Name.{Name}
 use Rattle.vlsi_base.specs.Member.{In, here, there}
 use Rattle.sym_geom.specs.declared.rect.Rect.{Rect}
@@ -25,14 +24,12 @@ use Rattle.net_right.specs.View.{member_of, IsSeenAs}
 use Rattle.net_right.specs.Writable.{CanBeNamed, HasShortNames}
 use Rattle.net_right.proofs.Lists.{map_twice}
 use Rattle.net_right.proofs.Terminals.{seen_instances}
-use Rattle.ocp_rows.specs.Placement.{Placement, row_width, rows_width, natural, block_width, block_columns, block_box, turn_of, standing_rows, port_column, grid_ports, supply_ports, supplies_to, net_count}
-use Rattle.block_geom.specs.Block.{flip_of}
+use Rattle.ocp_rows.specs.Placement.{Placement, row_width, rows_width, natural, block_width, block_columns, turn_of, standing, standing_rows, port_column, grid_ports, supply_ports, supplies_to, net_count}
 use Rattle.net_drawing.specs.Drawing.{Numbering}
-use Rattle.net_drawing.proofs.Coding.{In_get}
 use Rattle.net_drawing.proofs.Cells.{In_first, In_last}
 use Rattle.ocp_place.specs.Nets.{signal_ports, net_number}
 use Rattle.ocp_place.specs.Placed.{InRow, IsRowPlacementOf, rows_of, stood_in}
-use Rattle.ocp_place.specs.Stood.{named_rows}
+use Rattle.ocp_place.specs.Stood.{member, named_rows}
 use Rattle.ocp_place.proofs.Classes.{known, known_seen}
 use Rattle.grid_core.specs.declared.grid.Node.{Node}
 use Rattle.grid_core.specs.Grid.{IsInGrid, ahead, above}
@@ -41,7 +38,7 @@ use Rattle.grid_core.proofs.Lists.{In_either}
 use Rattle.maze_drawing.specs.Wiring.{Wire, HasVia, in_tree, at_terminal, wire_item, via_item, net_items}
 use Rattle.maze_drawing.specs.Points.{grid_over, terminal_nodes, port_nodes, net_nodes, reserved, via_nodes}
 use Rattle.maze_drawing.specs.Law.{IsRouted, maze_wiring, mark, marks}
-use Rattle.maze_drawing.proofs.Rows.{permuted_in, In_flat, in_rows}
+use Rattle.maze_drawing.proofs.Rows.{permuted_in, In_flat}
 use Rattle.maze_drawing.proofs.Trees.{neighbours_in, run_in}
 use Rattle.maze_drawing.proofs.Wired.{bounds_of, free_in}
 use Rattle.ocp_grid.specs.Law.{IsInRows, PlacementsAreInRows, PointsAreApart}
@@ -110,6 +107,26 @@ instance_at turn y one b w low high = (
   tt,
 )
 
+-- the row in which an instance stands
+record IsInSome (l : Library) (top : ℕ) (rows : List (List Member)) (i : Instance) : Type 0 where
+  pub turn : Transform
+  pub y : ℕ
+  pub members : List Member
+  pub listed : In members rows
+  pub low : y ≤ top
+  pub stands : In i (standing l turn (pos y) (pos 1500) members)
+
+in_some : (l : Library) (rows : List (List Member)) (flipped : Bool) (y : ℕ) (i : Instance) → In i (standing_rows l flipped (pos y) rows) → IsInSome l (y + 5000 * length rows) rows i
+in_some l [] flipped y i h = elim h [ ]
+in_some l (row ∷ rows) flipped y i h =
+    elim (In_either (standing l (turn_of flipped) (pos y) (pos 1500) row) (standing_rows l (not flipped) (pos (y + 5000)) rows) i h) [
+      | inl g ↦ record { turn = turn_of flipped; y = y; members = row; listed = here; low = omega arith; stands = g }
+      | inr g ↦
+          let r = in_some l rows (not flipped) (y + 5000) i g in
+          let a = r.low in
+          record { turn = r.turn; y = r.y; members = r.members; listed = there r.listed; low = omega (arith, a); stands = r.stands }
+    ]
+
 module _ (l : Library) (n : InMemory) (p : InRow) (routes : NetRoutes) (f : Figure) (placed : IsRowPlacementOf l n p) (drawable : AreDrawable l n p routes) (named : CanBeNamed n)
     (short : HasShortNames n) (few : HasFewPins n) (few_ports : length n.ports ≤ 8192) (drawn : IsDrawnInGrid l n p routes f) (stand : PlacementsAreInRows) where
   -- the netlist of layouts that it is known by
@@ -134,12 +151,12 @@ module _ (l : Library) (n : InMemory) (p : InRow) (routes : NetRoutes) (f : Figu
   abbrev lines : List Instance
   lines = stood_in k p
 
-  standing : IsInRows k l net block lines
-  standing = stand l n p k placed seen
+  in_rows : IsInRows k l net block lines
+  in_rows = stand l n p k placed seen
 
   ok : IsRouted k l net block lines drawable.metals routes drawn.wiring
   ok =
-      let r = standing in
+      let r = in_rows in
       record {
         nets = r.nets;
         no_tracks = r.no_tracks;
@@ -148,7 +165,7 @@ module _ (l : Library) (n : InMemory) (p : InRow) (routes : NetRoutes) (f : Figu
         stands = r.stands;
         listed = r.listed;
         few_metals = drawable.few;
-        trees = drawable.routes k seen;
+        trees = drawable.trees k seen;
         drawn = λ j low. drawn.drawn k seen j low;
       }
 
@@ -161,19 +178,19 @@ module _ (l : Library) (n : InMemory) (p : InRow) (routes : NetRoutes) (f : Figu
   -- ---- how far the block reaches
   of_row : (row : List Member) → In row rows → (one : Member) → In one row → In one k.instances
   of_row row h one g =
-      permuted_in k.instances (flat_map (λ r. r) rows) one (IsPermutation-sym (flat_map (λ r. r) rows) k.instances standing.each_once) (In_flat (λ r. r) rows row one h g)
+      permuted_in k.instances (flat_map (λ r. r) rows) one (IsPermutation-sym (flat_map (λ r. r) rows) k.instances in_rows.each_once) (In_flat (λ r. r) rows row one h g)
 
   few_in_row : (row : List Member) → In row rows → length row ≤ 65536
   few_in_row row h =
       let a = row_short rows row h in
-      let b = length_permutation (flat_map (λ r. r) rows) k.instances standing.each_once in
+      let b = length_permutation (flat_map (λ r. r) rows) k.instances in_rows.each_once in
       let c = few_members l n placed.passed placed.drawable named short few few_ports in
       omega (arith, a, b, c)
 
   few_rows : length rows ≤ 256
   few_rows =
       let a = (placed.rows k seen).few in
-      let b = length-map p.rows _ in
+      let b = length-map p.rows (λ (row : List ℕ). map (member k.instances) row) in
       omega (arith, a, b)
 
   width_is : pos p.width ≡ int_max (rows_width l rows) (pos (500 * (length names + 1)))
@@ -241,18 +258,15 @@ module _ (l : Library) (n : InMemory) (p : InRow) (routes : NetRoutes) (f : Figu
   -- ---- instances
   instance_fit : (i : Instance) → In i lines → IsFit (item.Instance i)
   instance_fit i h =
-      let j = permuted_in (standing_rows l false (pos 0) rows) lines i standing.stands h in
-      let s = in_rows l rows 0 false (pos 0) refl refl i j in
-      let listed : In s.members rows = In_get rows s.row s.members s.listed in
-      let turn = turn_of (flip_of (0 + s.row)) in
-      let r = spread l (stood turn (pos (5000 * (0 + s.row)))) s.members 1500 (λ one g. its_models one (of_row s.members listed one g)) i
-      (subst (λ (is : List Instance). In i is) (standing_is l turn (pos (5000 * (0 + s.row))) (pos 1500) s.members) s.within) in
-      let a = few_in_row s.members listed in
+      let s = in_some l rows false 0 i (permuted_in (standing_rows l false (pos 0) rows) lines i in_rows.stands h) in
+      let r = spread l (stood s.turn (pos s.y)) s.members 1500 (λ one g. its_models one (of_row s.members s.listed one g)) i
+      (subst (λ (is : List Instance). In i is) (standing_is l s.turn (pos s.y) (pos 1500) s.members) s.stands) in
+      let a = few_in_row s.members s.listed in
       let b = r.3 in
       let c = few_rows in
-      let d = slice_get_within rows s.row s.members s.listed in
-      all_in (λ (x : Instance). IsFit (item.Instance x)) (stood turn (pos (5000 * (0 + s.row))) (pos r.1) r.0)
-      (instance_at turn (5000 * (0 + s.row)) r.0 r.1 (named_well l n placed.passed placed.drawable named short few few_ports r.0 (of_row s.members listed r.0 r.2))
+      let d = s.low in
+      all_in (λ (x : Instance). IsFit (item.Instance x)) (stood s.turn (pos s.y) (pos r.1) r.0)
+      (instance_at s.turn s.y r.0 r.1 (named_well l n placed.passed placed.drawable named short few few_ports r.0 (of_row s.members s.listed r.0 r.2))
       (omega (arith, a, b)) (omega (arith, c, d)))
       i r.4
 
@@ -350,7 +364,7 @@ module _ (l : Library) (n : InMemory) (p : InRow) (routes : NetRoutes) (f : Figu
         let a = few_tracks l n placed.passed placed.drawable named short few few_ports in
         map_fit (mark j) (net_nodes k l net block lines j) (λ q h.
         mark_fit j q (omega (arith, a, low))
-        (node_near 3 q ((apart_law k l net block lines 3 standing (omega arith)).within j q low (reserved_in j q h)))))
+        (node_near 3 q ((apart_law k l net block lines 3 in_rows (omega arith)).within j q low (reserved_in j q h)))))
 
     pub marked_written : (g : Figure) → IsMarked l n p f g → IsFigure g × HasNearLines g
     marked_written g marked =

@@ -1,11 +1,10 @@
 -- The figure that is drawn of a netlist in rows.
-use Rattle.std.proofs.Common.{◌≡◌, ℕ, suc, ◌+◌, ◌*◌, ◌<◌, ◌≤◌, ◌^◌, List, [], ◌++◌, map, length, get_or, None, Some, refl, sym, ap, subst, ◌∙◌, arith, if◌then◌else◌}
+use Rattle.std.proofs.Common.{◌≡◌, ℕ, suc, ◌+◌, ◌*◌, ◌<◌, ◌≤◌, ◌^◌, List, [], ◌++◌, map, length, Option, Some, refl, sym, ap, subst, ◌∙◌, arith, if◌then◌else◌}
 use Rattle.std.specs.Prelude.{ℤ, pos, ◌+ℤ◌, ◌/◌, slice_get, flat_map, filter}
 use Rattle.std.specs.Int.{int_max}
 use Rattle.std.proofs.lemmas.Int.{ints, int_max_is}
 use Rattle.std.proofs.lemmas.Nat.{le-div}
 use Rattle.std.proofs.lemmas.List.{length-map}
-use Rattle.std.proofs.lemmas.Option.{slice_get-get_or, get_or_from_slice_get}
 use Rattle.vlsi_base.specs.declared.name.Name.{Name}
 use Rattle.vlsi_base.specs.Names.{scalar}
 use Rattle.sym_geom.specs.declared.grid.TheConstants.{PITCH, ROW_HEIGHT, FIRST_CELL_X}
@@ -27,6 +26,7 @@ use Rattle.ocp_place.specs.Placed.{InRow, IsRowPlacementOf, rows_of, stood_in}
 use Rattle.ocp_place.specs.Stood.{named_rows, stood_all}
 use Rattle.ocp_place.proofs.Clean.{rect_is}
 use Rattle.ocp_place.proofs.Classes.{known, known_seen}
+use Rattle.net_drawing.proofs.Coding.{get_there}
 use Rattle.net_drawing.specs.Shown.{KeepsNetlist, ShowsNetlist}
 use Rattle.grid_core.specs.declared.grid.Node.{Node}
 use Rattle.grid_core.specs.Routes.{NetRoutes}
@@ -37,11 +37,10 @@ use Rattle.maze_drawing.specs.Law.{IsRouted, RoutesKeepNets, RoutesShowNetlist, 
 use Rattle.maze_nets.specs.declared.points.NetPoints.{NetPoints}
 use Rattle.maze_nets.specs.Nets.{port_node}
 use Rattle.maze_wires.specs.declared.wires.NetWires.{NetWires}
-use Rattle.maze_wires.specs.Shown.{shown_net}
 use Rattle.ocp_grid.specs.Points.{nodes_of, ArePointsIn, ArePointsOf}
 use Rattle.ocp_grid.specs.Law.{IsInRows, PlacementsAreInRows}
 use Rattle.route_draw.specs.Pieces.{signal_names}
-use Rattle.route_draw.specs.GridPieces.{stood_lines, supplies_over, via_points, nothing, wiring_in, AreWired, numbered_lines, wires_of, marks_of, wired_lines, mark_lines, block_lines}
+use Rattle.route_draw.specs.GridPieces.{stood_lines, supplies_over, via_points, wiring_of, wiring_in, AreWired, numbered_lines, wires_of, marks_of, wired_lines, mark_lines, block_lines}
 use Rattle.route_draw.specs.Grid.{AreDrawable, IsDrawnInGrid, IsMarked}
 use Rattle.route_draw.proofs.Joins.{counted}
 use Rattle.route_draw.proofs.Lists.{by_number}
@@ -136,16 +135,15 @@ module _ (l : Library) (n : InMemory) (p : InRow) (placed : IsRowPlacementOf l n
           → IsWiringOf (routes j) (via_nodes k l (net_number k l) (rows_of k p) (stood_in k p) j) (wiring_in nets j)
       wiring_is k seen j low =
           let many = (are k seen).many in
-          let there : j < length points = omega (arith, low, many) in
-          let none : NetPoints = record { port = None; terminals = record { items = [] } } in
+          let there = get_there points j (omega (arith, low, many)) in
           subst (λ (qs : List Node). IsWiringOf (routes j) qs (wiring_in nets j))
-          (via_are k seen j (get_or points j none) (slice_get-get_or points j none there))
-          (wired.each j none there)
+          (via_are k seen j there.0 there.1)
+          (wired.each j there.0 there.1)
 
       wires_are : (k : AbstractNetlist) → IsSeenAs n k → maze_wiring k (signal_ports k) (wiring_in nets) ≡ wired_lines 0 (signal_ports k) nets
       wires_are k seen =
           all_numbered (wires_of (signal_ports k)) (λ j. net_items (slice_get (signal_ports k) j) (wiring_in nets j)) (net_count k) nets (wired.many ∙ (are k seen).many)
-          (λ j net s. ap (λ (w : NetWires). net_items (slice_get (signal_ports k) j) (shown_net w)) (get_or_from_slice_get nets j net nothing s))
+          (λ j net s. ap (λ (o : Option NetWires). net_items (slice_get (signal_ports k) j) (wiring_of o)) s)
 
       -- all lines together
       lines_are : (k : AbstractNetlist) → IsSeenAs n k → block_lines n p nets ≡ maze_items k l (rows_of k p) (stood_in k p) (wiring_in nets)
@@ -187,7 +185,7 @@ module _ (l : Library) (n : InMemory) (p : InRow) (placed : IsRowPlacementOf l n
               stands = r.stands;
               listed = r.listed;
               few_metals = drawable.few;
-              trees = drawable.routes k seen;
+              trees = drawable.trees k seen;
               drawn = wiring_is k seen;
             }
 

@@ -1,5 +1,5 @@
 -- Rails and straps over rows.
-use Rattle.std.proofs.Common.{◌≡◌, ◌++◌, ◌<◌, ◌≤◌, ◌+◌, ◌-◌, ◌*◌, ◌%◌, ◌==◌, ℕ, zero, suc, Bool, true, false, not, List, [], ◌∷◌, map, length, get_or, Some, refl, sym, ap, ◌∙◌, arith, if◌then◌else◌}
+use Rattle.std.proofs.Common.{◌≡◌, ◌++◌, ◌<◌, ◌≤◌, ◌+◌, ◌-◌, ◌*◌, ◌%◌, ◌==◌, ℕ, zero, suc, Bool, true, false, not, List, [], ◌∷◌, map, length, get_or, Some, refl, sym, ap, ◌∙◌, arith, append_assoc, if◌then◌else◌}
 use Rattle.std.specs.Prelude.{ℤ, pos, ◌+ℤ◌}
 use Rattle.std.proofs.lemmas.Int.{ints}
 use Rattle.vlsi_base.specs.declared.name.Name.{Name}
@@ -7,9 +7,10 @@ use Rattle.vlsi_base.specs.Names.{vdd, vss}
 use Rattle.sym_geom.specs.declared.grid.TheConstants.{WIRE_WIDTH, ROW_HEIGHT, VSS_RAIL_Y, VDD_RAIL_Y, FIRST_CELL_X}
 use Rattle.sym_geom.specs.declared.layer.Layer.TheVariants.{Alu}
 use Rattle.sym_geom.specs.declared.layer.Level.TheVariants.{Three}
+use Rattle.sym_geom.specs.declared.item.Direction.TheVariants.{Up}
 use Rattle.sym_geom.specs.declared.item.Item.{Item}
 use Rattle.net_meaning.specs.Netlist.{Member}
-use Rattle.ocp_rows.specs.Placement.{upright_wire, vss_centre, vdd_centre, centres, rail, rails, last_of, strap_vias, strap, supplies_to}
+use Rattle.ocp_rows.specs.Placement.{wire, upright_wire, vss_centre, vdd_centre, centres, rail, rails, last_of, strap_vias, strap, supplies_to}
 use Rattle.ocp_place.specs.Stood.{is_turned}
 use Rattle.route_draw.specs.GridPieces.{rail_y, rail_ys_from, rail_ys, row_rails, both_straps, supplies_over}
 
@@ -88,3 +89,18 @@ strap_is x name (y ∷ ys) d e some =
     let n : length ys ≡ length (y ∷ ys) - 1 = omega arith in
     ap (λ (z : ℤ). upright_wire (Alu Three) (pos WIRE_WIDTH) x (pos y) z (Some name) ∷ strap_vias x name (map pos (y ∷ ys)))
     (last_is y ys e ∙ ap (λ (j : ℕ). pos (get_or (y ∷ ys) j e)) n)
+
+-- the wire of a strap, and then its vias
+pub strap_step : (x a b y z : ℕ) (name : Name) (ys : List ℕ) (items after : List Item) → a ≡ x → b ≡ x → y ≡ get_or ys 0 0 → z ≡ get_or ys (length ys - 1) 0 → 1 ≤ length ys
+    → after ≡ items ++ wire Up (Alu Three) (pos WIRE_WIDTH) (pos a) (pos y) (pos b) (pos z) (Some name) ∷ []
+    → after ++ strap_vias (pos x) name (map pos ys) ≡ items ++ strap (pos x) name (map pos ys)
+strap_step x a b y z name ys items after ea eb ey ez some is =
+    let vias = strap_vias (pos x) name (map pos ys) in
+    let one : ℕ → ℕ → ℕ → ℕ → Item = λ c d e g. wire Up (Alu Three) (pos WIRE_WIDTH) (pos c) (pos d) (pos e) (pos g) (Some name) in
+    ap (λ (v : List Item). v ++ vias) is
+    ∙ append_assoc items (one a y b z ∷ []) vias
+    ∙ ap (λ (c : ℕ). items ++ one c y b z ∷ vias) ea
+    ∙ ap (λ (c : ℕ). items ++ one x y c z ∷ vias) eb
+    ∙ ap (λ (c : ℕ). items ++ one x c x z ∷ vias) ey
+    ∙ ap (λ (c : ℕ). items ++ one x (get_or ys 0 0) x c ∷ vias) ez
+    ∙ ap (λ (v : List Item). items ++ v) (sym (strap_is (pos x) name ys 0 0 some))

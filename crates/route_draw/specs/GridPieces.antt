@@ -1,11 +1,12 @@
 -- The lines of a figure in rows, piece by piece, from what is kept in memory.
-use Rattle.std.specs.Prelude.{◌≡◌, ℕ, ◌+◌, ◌*◌, ◌/◌, ◌<◌, ℤ, pos, List, [], ◌∷◌, ◌++◌, map, length, slice_get, slice_index_or, if◌then◌else◌}
+use Rattle.std.specs.Prelude.{◌≡◌, ℕ, ◌+◌, ◌*◌, ◌/◌, ℤ, pos, List, [], ◌∷◌, ◌++◌, map, length, slice_get, Option, None, Some, if◌then◌else◌}
 use Prim.Native.Nat.{zero, suc}
 use Rattle.vlsi_base.specs.declared.name.Name.{Name}
 use Rattle.vlsi_base.specs.Names.{vdd, vss}
 use Rattle.sym_geom.specs.declared.grid.TheConstants.{PITCH, ROW_HEIGHT, VSS_RAIL_Y, VDD_RAIL_Y, VSS_STRAP_X, VDD_STRAP_X, FIRST_CELL_X}
 use Rattle.sym_geom.specs.declared.item.Item.{Item}
 use Rattle.sym_geom.specs.declared.item.Item.TheVariants as item
+use Rattle.net_core.specs.Places.{Stands}
 use Rattle.net_core.specs.Netlist.{Instance, Netlist as InMemory}
 use Rattle.net_right.specs.View.{member_of}
 use Rattle.ocp_rows.specs.Placement.{rail, strap, supply_ports, grid_ports, port_column}
@@ -13,7 +14,7 @@ use Rattle.ocp_place.specs.Placed.{InRow}
 use Rattle.ocp_place.specs.Stood.{is_turned, stood_all}
 use Rattle.grid_core.specs.declared.grid.Node.{Node}
 use Rattle.grid_core.specs.Routes.{NetRoutes}
-use Rattle.maze_drawing.specs.Wiring.{Wiring, IsWiringOf, net_items}
+use Rattle.maze_drawing.specs.Wiring.{NetWiring, Wiring, IsWiringOf, net_items}
 use Rattle.maze_drawing.specs.Points.{has_two}
 use Rattle.maze_drawing.specs.Law.{mark}
 use Rattle.maze_nets.specs.declared.points.NetPoints.{NetPoints}
@@ -64,17 +65,19 @@ supplies_over width rows =
 abbrev pub via_points : NetPoints → List Node
 via_points n = if has_two (points_of n) then n.terminals.items else []
 
-abbrev pub nothing : NetWires
-nothing = record { wires = record { items = [] }; vias = record { items = [] } }
+-- the wiring of a net; none where there is no such net
+abbrev pub wiring_of : Option NetWires → NetWiring
+wiring_of None = record { wires = []; vias = [] }
+wiring_of (Some net) = shown_net net
 
 -- the wiring that is kept in memory, by the numbers of nets
 abbrev pub wiring_in : List NetWires → Wiring
-wiring_in nets j = shown_net (slice_index_or nets j nothing)
+wiring_in nets j = wiring_of (slice_get nets j)
 
 -- it is that of these routes, for nets with these points
 pub record AreWired (routes : NetRoutes) (points : List NetPoints) (nets : List NetWires) : Type 0 where
   pub many : length nets ≡ length points
-  pub each : (j : ℕ) (d : NetPoints) → j < length points → IsWiringOf (routes j) (via_points (slice_index_or points j d)) (wiring_in nets j)
+  pub each : (j : ℕ) (net : NetPoints) → Stands points j net → IsWiringOf (routes j) (via_points net) (wiring_in nets j)
 
 -- the lines of some things by their numbers, the first of which is k
 abbrev pub numbered_lines : {A : Type 0} → (ℕ → A → List Item) → ℕ → List A → List Item

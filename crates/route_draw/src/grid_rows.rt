@@ -2,7 +2,7 @@
 ghost use Rattle.std.specs.Prelude.{◌≡◌, ◌++◌, ◌∷◌, ◌≤◌, ◌<◌, ◌+◌, ◌^◌, [], map, pos, length, IfOk, OnOk};
 ghost use Rattle.std.specs.List.{All};
 ghost use Rattle.sym_geom.specs.declared.grid.TheConstants.{FIRST_CELL_X as first_x};
-ghost use Rattle.sym_geom.specs.declared.item.Item.TheVariants.{Instance};
+ghost use Rattle.sym_geom.specs.declared.item.Item.TheVariants.{Instance as instance_item};
 ghost use Rattle.ocp_rows.specs.Placement.{turn_of, rail, strap, strap_vias, grid_ports, port_column};
 ghost use Rattle.ocp_place.specs.Stood.{is_turned, stood};
 ghost use Rattle.route_draw.specs.GridPieces.{rail_y, rail_ys, row_rails, both_straps, supplies_over, stood_lines};
@@ -42,6 +42,7 @@ fn rail_y(row: usize, upright: u16, turned: u16) -> u64
 fn rail_ys(alloc: Global, rows: usize, upright: u16, turned: u16) -> Result<Vec<u64>, AllocError>
     requires { rows ≤ 256 }
     ensures value { IfOk result (λ ys. ys.items ≡ rail_ys upright turned rows) }
+    ensures many { IfOk result (λ ys. length ys.items ≡ rows) }
     ensures near { IfOk result (λ ys. All (λ y. y ≤ 200000000000000) ys.items) }
 {
     let mut ys = Vec::new(alloc);
@@ -245,7 +246,7 @@ fn push_instance(
 ) -> Result<(), AllocError>
     requires { place.x ≤ 100000000000000 }
     ensures { OnOk result (items.new
-        ≡ items.old ++ Instance (stood (record { name = name.now; model = model.now }) place.x place.row) ∷ []) }
+        ≡ items.old ++ instance_item (stood (record { name = name.now; model = model.now }) place.x place.row) ∷ []) }
 {
     let model = model.copy(alloc)?;
     let name = name.copy(alloc)?;

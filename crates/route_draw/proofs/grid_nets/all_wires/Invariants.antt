@@ -1,7 +1,7 @@
 use Rattle.std.proofs.Common.{◌≡◌, ◌<◌, ℕ, length}
-use Rattle.std.specs.Prelude.{slice_index_or}
 use Rattle.grid_core.specs.Shown.{tree_in}
 use Rattle.maze_drawing.specs.Wiring.{IsWiringOf}
+use Rattle.net_core.specs.Places.{Stands}
 use Rattle.maze_nets.specs.declared.points.NetPoints.{NetPoints}
 use Rattle.route_draw.specs.GridPieces.{via_points, wiring_in}
 use Rattle.route_draw.proofs.grid_nets.all_wires.Given as goal
@@ -9,5 +9,5 @@ use Rattle.route_draw.proofs.grid_nets.all_wires.Given as goal
 abbrev pub invariant-loop-k : goal.invariant-loop-k
 invariant-loop-k l = record {
   many : length l.made.items ≡ l.k;
-  each : (j : ℕ) (d : NetPoints) → j < l.k → IsWiringOf (tree_in l.routes j) (via_points (slice_index_or l.nets j d)) (wiring_in l.made.items j);
+  each : (j : ℕ) (net : NetPoints) → j < l.k → Stands l.nets j net → IsWiringOf (tree_in l.routes j) (via_points net) (wiring_in l.made.items j);
 }
