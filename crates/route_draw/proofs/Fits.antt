@@ -1,5 +1,5 @@
 -- Lines over rows that the format can hold and that are within its limits.
-use Rattle.std.proofs.Common.{◌≡◌, ℕ, zero, suc, ◌+◌, ◌-◌, ◌*◌, ◌<◌, ◌≤◌, Bool, true, false, List, [], ◌∷◌, ◌++◌, map, length, Option, None, Some, refl, sym, ap, subst, ◌∙◌, arith, rules, if◌then◌else◌}
+use Rattle.std.proofs.Common.{ℕ, zero, suc, ◌+◌, ◌-◌, ◌*◌, ◌<◌, ◌≤◌, Bool, true, false, List, [], ◌∷◌, ◌++◌, map, length, Option, Some, sym, subst, arith, rules, if◌then◌else◌}
 use Rattle.std.specs.Prelude.{ℤ, pos, ◌/◌, nat_eq, flat_map, codes}
 use Rattle.std.specs.List.{AllByRecursion}
 use Rattle.std.specs.Fmt.{decimal}
@@ -10,24 +10,22 @@ use Rattle.std.proofs.Math.Nat.{mul-le-mul_right}
 use Rattle.vlsi_base.specs.declared.name.Name.{Name}
 use Rattle.vlsi_base.specs.Names.{vdd, vss}
 use Rattle.vlsi_base.specs.Member.{In, here, there}
-use Rattle.sym_geom.specs.declared.grid.TheConstants.{VSS_RAIL_Y, VDD_RAIL_Y, FIRST_CELL_X}
 use Rattle.sym_geom.specs.declared.layer.Layer.{Layer}
 use Rattle.sym_geom.specs.declared.layer.Layer.TheVariants.{Alu}
 use Rattle.sym_geom.specs.declared.layer.Level.TheVariants.{One, Three}
 use Rattle.sym_geom.specs.declared.item.Contact.TheVariants.{Via1, Via2, Via3, Via4, Via5}
 use Rattle.sym_geom.specs.declared.item.Item.{Item}
-use Rattle.sym_geom.specs.declared.item.Item.TheVariants as item
-use Rattle.ap_io.specs.ApText.{IsLine, IsContact, IsNear, IsItemWithin, is_field_byte, instance_names}
+use Rattle.ap_io.specs.ApText.{IsLine, IsContact, IsNear, IsItemWithin, is_field_byte}
 use Rattle.ap_io.proofs.NumbersAgain.{number_again}
 use Rattle.cell_model.specs.Access.{count_to}
-use Rattle.ocp_rows.specs.Placement.{level_wire, upright_wire, contact_at, north_port, column_x, row_y, port_column, port_row, grid_ports, last_of, strap_vias, strap}
+use Rattle.ocp_rows.specs.Placement.{level_wire, upright_wire, north_port, column_x, row_y, port_column, port_row, grid_ports, last_of, strap_vias, strap}
 use Rattle.ocp_place.specs.Stood.{is_turned}
 use Rattle.grid_core.specs.declared.grid.Node.{Node}
 use Rattle.grid_core.specs.Grid.{is_level}
 use Rattle.maze_drawing.specs.Wiring.{level_of, contact_of, wire_between, via_item}
 use Rattle.maze_drawing.specs.Law.{mark}
-use Rattle.route_draw.specs.GridPieces.{rail_y, rail_ys_from, rail_ys, row_rails, supplies_over}
-use Rattle.route_draw.proofs.Goods.{IsGood, IsGoodLabel, IsWireWidth, vdd_label, vss_label, level_good, upright_good, low_via_good, high_via_good}
+use Rattle.route_draw.specs.GridPieces.{rail_ys_from, rail_ys, row_rails, supplies_over}
+use Rattle.route_draw.proofs.Goods.{IsGood, IsGoodLabel, vdd_label, vss_label, level_good, upright_good, low_via_good, high_via_good}
 use Rattle.route_draw.proofs.Written.{wire_width, rail_width, near_pos}
 
 -- a line that the format can hold, within the limits

@@ -8,7 +8,6 @@ use Rattle.std.proofs.lemmas.List.{length-map}
 use Rattle.std.proofs.lemmas.List.Sorted.{length_permutation, IsPermutation-sym}
 use Rattle.vlsi_base.specs.declared.name.Name.{Name}
 use Rattle.vlsi_base.specs.Member.{In, here, there}
-use Rattle.sym_geom.specs.declared.rect.Rect.{Rect}
 use Rattle.sym_geom.specs.declared.rect.Transform.{Transform}
 use Rattle.sym_geom.specs.declared.item.Instance.{Instance}
 use Rattle.sym_geom.specs.declared.item.Item.{Item}
@@ -43,7 +42,6 @@ use Rattle.maze_drawing.proofs.Trees.{neighbours_in, run_in}
 use Rattle.maze_drawing.proofs.Wired.{bounds_of, free_in}
 use Rattle.ocp_grid.specs.Law.{IsInRows, PlacementsAreInRows, PointsAreApart}
 use Rattle.route_draw.specs.Law.{HasFewPins, GridDrawingCanBeWritten, MarkedDrawingCanBeWritten}
-use Rattle.route_draw.specs.GridPieces.{supplies_over}
 use Rattle.route_draw.specs.Grid.{AreDrawable, IsDrawnInGrid, IsMarked}
 use Rattle.route_draw.proofs.Goods.{IsGood, IsGoodLabel, word_of, instance_good}
 use Rattle.route_draw.proofs.Spread.{IsModelOf, stood, standing_is, spread, row_is}

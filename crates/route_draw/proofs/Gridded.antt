@@ -1,5 +1,5 @@
 -- The figure that is drawn of a netlist in rows.
-use Rattle.std.proofs.Common.{◌≡◌, ℕ, suc, ◌+◌, ◌*◌, ◌<◌, ◌≤◌, ◌^◌, List, [], ◌++◌, map, length, Option, Some, refl, sym, ap, subst, ◌∙◌, arith, if◌then◌else◌}
+use Rattle.std.proofs.Common.{◌≡◌, ℕ, ◌+◌, ◌*◌, ◌<◌, ◌≤◌, ◌^◌, List, [], ◌++◌, map, length, Option, Some, sym, ap, subst, ◌∙◌, arith, if◌then◌else◌}
 use Rattle.std.specs.Prelude.{ℤ, pos, ◌+ℤ◌, ◌/◌, slice_get, flat_map, filter}
 use Rattle.std.specs.Int.{int_max}
 use Rattle.std.proofs.lemmas.Int.{ints, int_max_is}
@@ -30,15 +30,14 @@ use Rattle.net_drawing.proofs.Coding.{get_there}
 use Rattle.net_drawing.specs.Shown.{KeepsNetlist, ShowsNetlist}
 use Rattle.grid_core.specs.declared.grid.Node.{Node}
 use Rattle.grid_core.specs.Routes.{NetRoutes}
-use Rattle.grid_core.specs.Trees.{AreWhole}
 use Rattle.maze_drawing.specs.Wiring.{IsWiringOf, net_items}
-use Rattle.maze_drawing.specs.Points.{has_two, port_nodes, terminal_nodes, net_nodes, via_nodes}
+use Rattle.maze_drawing.specs.Points.{has_two, port_nodes, net_nodes, via_nodes}
 use Rattle.maze_drawing.specs.Law.{IsRouted, RoutesKeepNets, RoutesShowNetlist, maze_wiring, maze_items, mark, marks}
 use Rattle.maze_nets.specs.declared.points.NetPoints.{NetPoints}
 use Rattle.maze_nets.specs.Nets.{port_node}
 use Rattle.maze_wires.specs.declared.wires.NetWires.{NetWires}
-use Rattle.ocp_grid.specs.Points.{nodes_of, ArePointsIn, ArePointsOf}
-use Rattle.ocp_grid.specs.Law.{IsInRows, PlacementsAreInRows}
+use Rattle.ocp_grid.specs.Points.{ArePointsIn}
+use Rattle.ocp_grid.specs.Law.{PlacementsAreInRows}
 use Rattle.route_draw.specs.Pieces.{signal_names}
 use Rattle.route_draw.specs.GridPieces.{stood_lines, supplies_over, via_points, wiring_of, wiring_in, AreWired, numbered_lines, wires_of, marks_of, wired_lines, mark_lines, block_lines}
 use Rattle.route_draw.specs.Grid.{AreDrawable, IsDrawnInGrid, IsMarked}

@@ -1,5 +1,5 @@
 -- What is made of lists step by step.
-use Rattle.std.proofs.Common.{◌≡◌, ◌++◌, ◌<◌, ◌≤◌, ◌+◌, ℕ, zero, suc, inl, inr, List, [], ◌∷◌, drop, length, Option, None, Some, get_or, sym, ap, subst, ◌∙◌, append_assoc, refl, arith, Bor}
+use Rattle.std.proofs.Common.{◌≡◌, ◌++◌, ◌<◌, ◌+◌, ℕ, zero, suc, inl, inr, List, [], ◌∷◌, drop, length, Option, None, Some, get_or, sym, ap, subst, ◌∙◌, append_assoc, refl, arith, Bor}
 use Rattle.std.specs.Prelude.{slice_get}
 use Rattle.std.specs.Option.{option_copied}
 use Rattle.std.specs.Slice.{IsItemAt}
@@ -30,12 +30,25 @@ joined {A} nothing none first second third fourth fifth a b c d e o p q r s t u 
 
 -- ---- rails
 
-pub rail_ys_last : (upright turned r many : ℕ) → rail_ys_from upright turned r (suc many) ≡ rail_ys_from upright turned r many ++ rail_y upright turned (r + many) ∷ []
+rail_ys_last : (upright turned r many : ℕ) → rail_ys_from upright turned r (suc many) ≡ rail_ys_from upright turned r many ++ rail_y upright turned (r + many) ∷ []
 rail_ys_last upright turned r zero = let e : r ≡ r + 0 = omega arith in ap (λ (j : ℕ). rail_y upright turned j ∷ []) e
 rail_ys_last upright turned r (suc many) =
     let e : suc r + many ≡ r + suc many = omega arith in
     ap (λ (ys : List ℕ). rail_y upright turned r ∷ ys)
     (rail_ys_last upright turned (suc r) many ∙ ap (λ (j : ℕ). rail_ys_from upright turned (suc r) many ++ rail_y upright turned j ∷ []) e)
+
+-- a step of a loop that lists them
+pub rail_ys_more : (upright turned row y : ℕ) (ys made : List ℕ) → made ≡ ys ++ y ∷ [] → ys ≡ rail_ys_from upright turned 0 row → y ≡ rail_y upright turned row
+    → made ≡ rail_ys_from upright turned 0 (row + 1)
+rail_ys_more upright turned row y ys made is so at =
+    let z : row ≡ 0 + row = omega arith in
+    let e : suc row ≡ row + 1 = omega arith in
+    is
+    ∙ ap (λ (v : List ℕ). v ++ y ∷ []) so
+    ∙ ap (λ (v : ℕ). rail_ys_from upright turned 0 row ++ v ∷ []) at
+    ∙ ap (λ (j : ℕ). rail_ys_from upright turned 0 row ++ rail_y upright turned j ∷ []) z
+    ∙ sym (rail_ys_last upright turned 0 row)
+    ∙ ap (λ (many : ℕ). rail_ys_from upright turned 0 many) e
 
 -- ---- lines by numbers
 

@@ -1,4 +1,4 @@
-use Rattle.std.proofs.Common.{◌≡◌, ◌++◌, List, length, refl, ap, ◌∙◌, arith}
+use Rattle.std.proofs.Common.{◌++◌, List, length, refl, ap, ◌∙◌, arith}
 use Rattle.maze_nets.specs.declared.points.NetPoints.{NetPoints}
 use Rattle.route_draw.specs.GridPieces.{mark_lines}
 use Rattle.route_draw.proofs.Gridded.{points_few, marked}
