@@ -80,7 +80,7 @@ supplies_are l w ms e =
 -- ---- counts
 
 -- f of k, of k + 1 and so on, n in all
-abbrev ranged : {A : Type 0} → (ℕ → List A) → ℕ → ℕ → List A
+abbrev pub ranged : {A : Type 0} → (ℕ → List A) → ℕ → ℕ → List A
 ranged f k zero = []
 ranged f k (suc n) = f k ++ ranged f (suc k) n
 
@@ -91,7 +91,7 @@ ranged_last {A} f k (suc n) =
     ap (λ (xs : List A). f k ++ xs) (ranged_last f (suc k) n) ∙ ap (λ (i : ℕ). f k ++ (ranged f (suc k) n ++ f i)) e
     ∙ sym (append_assoc (f k) (ranged f (suc k) n) (f (k + suc n)))
 
-counted : {A : Type 0} (f : ℕ → List A) (n : ℕ) → flat_map f (count_to n) ≡ ranged f 0 n
+pub counted : {A : Type 0} (f : ℕ → List A) (n : ℕ) → flat_map f (count_to n) ≡ ranged f 0 n
 counted f zero = refl
 counted {A} f (suc n) =
     let z : n ≡ 0 + n = omega arith in

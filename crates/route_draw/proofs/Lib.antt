@@ -1,3 +1,4 @@
+pub mod Lists
 pub mod Right
 pub mod Sited
 pub mod Ends
@@ -8,3 +9,7 @@ pub mod Goods
 pub mod Pins
 pub mod Spread
 pub mod Written
+pub mod Rows
+pub mod Gridded
+pub mod Fits
+pub mod GridWritten

@@ -72,34 +72,34 @@ good_append : (xs ys : List Item) → AreGood xs → AreGood ys → AreGood (xs 
 good_append [] ys a b = b
 good_append (x ∷ xs) ys a b = (a.0, good_append xs ys a.1 b)
 
-all_in : {A : Type 0} (P : A → Type 0) (xs : List A) → AllByRecursion P xs → (x : A) → In x xs → P x
+pub all_in : {A : Type 0} (P : A → Type 0) (xs : List A) → AllByRecursion P xs → (x : A) → In x xs → P x
 all_in P [] h x i = elim i [ ]
 all_in P (y ∷ xs) h x here = h.0
 all_in P (y ∷ xs) h x (there i) = all_in P xs h.1 x i
 
-all_so : {A : Type 0} (P Q : A → Type 0) → ((x : A) → P x → Q x) → (xs : List A) → AllByRecursion P xs → AllByRecursion Q xs
+pub all_so : {A : Type 0} (P Q : A → Type 0) → ((x : A) → P x → Q x) → (xs : List A) → AllByRecursion P xs → AllByRecursion Q xs
 all_so P Q so [] h = tt
 all_so P Q so (x ∷ xs) h = (so x h.0, all_so P Q so xs h.1)
 
-all_of : {A : Type 0} (P : A → Type 0) (xs : List A) → AllByRecursion P xs → All P xs
+pub all_of : {A : Type 0} (P : A → Type 0) (xs : List A) → AllByRecursion P xs → All P xs
 all_of P [] h = All-nil P
 all_of P (x ∷ xs) h = All-cons P x xs h.0 (all_of P xs h.1)
 
 -- ---- supplies, ports and nets
 
-wire_width : IsWireWidth 200
+pub wire_width : IsWireWidth 200
 wire_width = record { least = omega arith; most = omega arith }
 
-rail_width : IsWireWidth 600
+pub rail_width : IsWireWidth 600
 rail_width = record { least = omega arith; most = omega arith }
 
-near_pos : (z : ℕ) → z ≤ 1000000000000 → IsNear (pos z)
+pub near_pos : (z : ℕ) → z ≤ 1000000000000 → IsNear (pos z)
 near_pos z h = h
 
 near_track : (k : ℕ) → k ≤ 100000 → IsNear (track_y k)
 near_track k low = near_pos (5500 + 500 * k) (omega (arith, low))
 
-supply_ports_good : AreGood supply_ports
+pub supply_ports_good : AreGood supply_ports
 supply_ports_good = (
   port_good (Alu One) 600 (pos 500) (pos 300) vss rail_width (near_pos 500 (omega arith)) (near_pos 300 (omega arith)) vss_label,
   (port_good (Alu One) 600 (pos 500) (pos 4700) vdd rail_width (near_pos 500 (omega arith)) (near_pos 4700 (omega arith)) vdd_label, tt),
@@ -141,7 +141,7 @@ tracks_good k (name ∷ rest) few each = (
   tracks_good (suc k) rest (omega (arith, few)) (λ other i. each other (there i)),
 )
 
-label_at : (names : List Name) → ((name : Name) → In name names → IsGoodLabel (Some name)) → (k : ℕ) → IsGoodLabel (slice_get names k)
+pub label_at : (names : List Name) → ((name : Name) → In name names → IsGoodLabel (Some name)) → (k : ℕ) → IsGoodLabel (slice_get names k)
 label_at names each k = by (slice_get names k) refl where
   by : (o : Option Name) → slice_get names k ≡ o → IsGoodLabel o
   by None e = no_label
@@ -201,7 +201,7 @@ module _ (n : AbstractNetlist) (l : Library) (net : Numbering) (ports : List Nam
 
 -- ---- names of instances
 
-names_listed : (items : List Item) → instance_names items ≡ map (λ (i : Instance). i.name) (instances_of items)
+pub names_listed : (items : List Item) → instance_names items ≡ map (λ (i : Instance). i.name) (instances_of items)
 names_listed [] = refl
 names_listed (item.Segment s ∷ rest) = names_listed rest
 names_listed (item.Connector c ∷ rest) = names_listed rest
@@ -210,7 +210,7 @@ names_listed (item.Instance i ∷ rest) = ap (λ (names : List (List ℕ)). i.na
 names_listed (item.Reference r ∷ rest) = names_listed rest
 names_listed (item.Remark text ∷ rest) = names_listed rest
 
-apart : (names : List (List ℕ)) → NoneTwice names → AllPairs (λ a b. a ≢ b) names
+pub apart : (names : List (List ℕ)) → NoneTwice names → AllPairs (λ a b. a ≢ b) names
 apart names once i j d low high same =
     let first : Stands names i (get_or names i d) = slice_get-get_or names i d (omega (arith, low, high)) in
     let second : Stands names j (get_or names j d) = slice_get-get_or names j d high in
@@ -220,22 +220,22 @@ apart names once i j d low high same =
 -- ---- the figure
 
 -- the names of an instance can be written
-record IsNamedWell (one : Member) : Type 0 where
+pub record IsNamedWell (one : Member) : Type 0 where
   pub name : IsWord one.name
   pub model : IsWord one.model
   pub short_name : IsShort one.name
   pub short_model : IsShort one.model
 
 -- a box with its edges in order, within the limits
-record IsBoxWithin (b : Rect) : Type 0 where
+pub record IsBoxWithin (b : Rect) : Type 0 where
   pub order : IsRect b
   pub x1 : IsNear b.x1
   pub y1 : IsNear b.y1
   pub x2 : IsNear b.x2
   pub y2 : IsNear b.y2
 
-module _ (l : Library) (n : InMemory) (f : Figure) (passed : HasPassed false l) (given : IsDrawableIn l n) (named : CanBeNamed n) (short : HasShortNames n)
-    (few : HasFewPins n) (few_ports : length n.ports ≤ 8192) (drawn : IsDrawnInTracks l n f) where
+module _ (l : Library) (n : InMemory) (passed : HasPassed false l) (given : IsDrawableIn l n) (named : CanBeNamed n) (short : HasShortNames n)
+    (few : HasFewPins n) (few_ports : length n.ports ≤ 8192) where
   -- the netlist of layouts that it is known by
   abbrev k : AbstractNetlist
   k = known n
@@ -255,7 +255,7 @@ module _ (l : Library) (n : InMemory) (f : Figure) (passed : HasPassed false l) 
   members : k.instances ≡ map member_of n.instances
   members = seen_instances n k seen
 
-  few_members : length k.instances ≤ 65536
+  pub few_members : length k.instances ≤ 65536
   few_members =
       let a = ap (λ (ms : List Member). length ms) members in
       let b = length-map n.instances member_of in
@@ -277,7 +277,7 @@ module _ (l : Library) (n : InMemory) (f : Figure) (passed : HasPassed false l) 
       let c = few.pins in
       omega (arith, a, b, c)
 
-  models : (one : Member) → In one k.instances → IsModelOf l one
+  pub models : (one : Member) → In one k.instances → IsModelOf l one
   models one listed =
       let r = is_orderly.models one listed in
       let clean = r.3 in
@@ -311,20 +311,20 @@ module _ (l : Library) (n : InMemory) (f : Figure) (passed : HasPassed false l) 
       let small = All-In (λ (q : Port). (length q.name.text ≤ 64) × IfSome q.name.bit (λ b. b < 2 ^ 32)) n.ports short.ports p i in
       record { label = (word_of p.name.text word.0, small.1); short = small.0 }
 
-  labels : (name : Name) → In name names → IsGoodLabel (Some name)
+  pub labels : (name : Name) → In name names → IsGoodLabel (Some name)
   labels name i =
       let a = (in_filter is_signal k.ports name i).0 in
       let r = In-map_back (λ (p : Port). p.name) name n.ports (subst (λ (xs : List Name). In name xs) (seen_ports n k seen) a) in
       subst (λ (x : Name). IsGoodLabel (Some x)) r.2 (label_of_port r.0 r.1)
 
-  few_names : length names ≤ 8192
+  pub few_names : length names ≤ 8192
   few_names =
       let a = filter_less is_signal k.ports in
       let b = ap (λ (xs : List Name). length xs) (seen_ports n k seen) in
       let c = length-map n.ports (λ (p : Port). p.name) in
       omega (arith, a, b, c)
 
-  named_well : (one : Member) → In one k.instances → IsNamedWell one
+  pub named_well : (one : Member) → In one k.instances → IsNamedWell one
   named_well one i =
       let r = In-map_back member_of one n.instances (subst (λ (ms : List Member). In one ms) members i) in
       let word = All-In CanBeAnInstance n.instances named.instances r.0 r.1 in
@@ -362,7 +362,7 @@ module _ (l : Library) (n : InMemory) (f : Figure) (passed : HasPassed false l) 
       let e = driven_few k l k.instances models in
       omega (arith, a, b, c, d, e)
 
-  few_tracks : net_count k ≤ 100000
+  pub few_tracks : net_count k ≤ 100000
   few_tracks = let a = few_nets in let b = few_members in let c = few_names in omega (arith, a, b, c)
 
   row_wide : (w : ℕ) × (pos w ≡ row_width l k.instances) × (w ≤ 1100000000)
@@ -372,99 +372,100 @@ module _ (l : Library) (n : InMemory) (f : Figure) (passed : HasPassed false l) 
       let members_few = few_members in
       (r.0, r.1, omega (arith, low, members_few))
 
-  items_are : f.items ≡ track_items k l net names
-  items_are = drawn.lines k seen
+  module _ (f : Figure) (drawn : IsDrawnInTracks l n f) where
+    items_are : f.items ≡ track_items k l net names
+    items_are = drawn.lines k seen
 
-  goods : AreGood f.items
-  goods =
-      subst (λ (items : List Item). AreGood items) (sym items_are)
-      (good_append supply_ports (track_ports 0 names ++ (map item.Instance (standing l NoSym (pos 0) (pos 1500) k.instances) ++ (supplies l (k.instances ∷ []) ++ wiring k l net names))) supply_ports_good
-      (good_append (track_ports 0 names) (map item.Instance (standing l NoSym (pos 0) (pos 1500) k.instances) ++ (supplies l (k.instances ∷ []) ++ wiring k l net names))
-      (tracks_good 0 names (let a = few_names in omega (arith, a)) labels)
-      (good_append (map item.Instance (standing l NoSym (pos 0) (pos 1500) k.instances)) (supplies l (k.instances ∷ []) ++ wiring k l net names) instances_good
-      (good_append (supplies l (k.instances ∷ [])) (wiring k l net names)
-      (subst (λ (items : List Item). AreGood items) (supplies_are l row_wide.0 k.instances row_wide.1) (supplies_good row_wide.0 row_wide.2))
-      (nets_good k l net names models few_members labels (net_count k) few_tracks)))))
+    goods : AreGood f.items
+    goods =
+        subst (λ (items : List Item). AreGood items) (sym items_are)
+        (good_append supply_ports (track_ports 0 names ++ (map item.Instance (standing l NoSym (pos 0) (pos 1500) k.instances) ++ (supplies l (k.instances ∷ []) ++ wiring k l net names))) supply_ports_good
+        (good_append (track_ports 0 names) (map item.Instance (standing l NoSym (pos 0) (pos 1500) k.instances) ++ (supplies l (k.instances ∷ []) ++ wiring k l net names))
+        (tracks_good 0 names (let a = few_names in omega (arith, a)) labels)
+        (good_append (map item.Instance (standing l NoSym (pos 0) (pos 1500) k.instances)) (supplies l (k.instances ∷ []) ++ wiring k l net names) instances_good
+        (good_append (supplies l (k.instances ∷ [])) (wiring k l net names)
+        (subst (λ (items : List Item). AreGood items) (supplies_are l row_wide.0 k.instances row_wide.1) (supplies_good row_wide.0 row_wide.2))
+        (nets_good k l net names models few_members labels (net_count k) few_tracks)))))
 
-  -- two lines for each port, one for each instance and one for its net, four for each of its signal pins, and ten for the supplies
-  few_items : length f.items ≤ 10 + (2 * length names + 2 * length k.instances + 4 * sum_by (signal_pins l) k.instances)
-  few_items =
-      let is = standing l NoSym (pos 0) (pos 1500) k.instances in
-      let a = ap (λ (items : List Item). length items) items_are in
-      let b = length-append (track_ports 0 names) (map item.Instance is ++ (supplies l (k.instances ∷ []) ++ wiring k l net names)) in
-      let c = length-append (map item.Instance is) (supplies l (k.instances ∷ []) ++ wiring k l net names) in
-      let d = ports_long 0 names in
-      let e = length-map is (λ (x : Instance). item.Instance x) in
-      let g = standing_long l NoSym (pos 0) (pos 1500) k.instances in
-      let h = nets_few k l net names (net_count k) models in
-      let j = few_nets in
-      omega (arith, a, b, c, d, e, g, h, j)
-    where
-      ports_long : (j : ℕ) (xs : List Name) → length (track_ports j xs) ≡ length xs
-      ports_long j [] = refl
-      ports_long j (x ∷ xs) = ap suc (ports_long (suc j) xs)
+    -- two lines for each port, one for each instance and one for its net, four for each of its signal pins, and ten for the supplies
+    few_items : length f.items ≤ 10 + (2 * length names + 2 * length k.instances + 4 * sum_by (signal_pins l) k.instances)
+    few_items =
+        let is = standing l NoSym (pos 0) (pos 1500) k.instances in
+        let a = ap (λ (items : List Item). length items) items_are in
+        let b = length-append (track_ports 0 names) (map item.Instance is ++ (supplies l (k.instances ∷ []) ++ wiring k l net names)) in
+        let c = length-append (map item.Instance is) (supplies l (k.instances ∷ []) ++ wiring k l net names) in
+        let d = ports_long 0 names in
+        let e = length-map is (λ (x : Instance). item.Instance x) in
+        let g = standing_long l NoSym (pos 0) (pos 1500) k.instances in
+        let h = nets_few k l net names (net_count k) models in
+        let j = few_nets in
+        omega (arith, a, b, c, d, e, g, h, j)
+      where
+        ports_long : (j : ℕ) (xs : List Name) → length (track_ports j xs) ≡ length xs
+        ports_long j [] = refl
+        ports_long j (x ∷ xs) = ap suc (ports_long (suc j) xs)
 
-  box : IsBoxWithin f.bounds
-  box =
-      let wide : (pos 2000 +ℤ rows_width l (k.instances ∷ [])) ≡ pos (2000 + row_wide.0) = ap (λ (z : ℤ). pos 2000 +ℤ z) (rows_are l row_wide.0 k.instances row_wide.1) in
-      let low = row_wide.2 in
-      subst IsBoxWithin (sym (drawn.box k seen ∙ ap (λ (z : ℤ). record { x1 = pos 0; y1 = pos 0; x2 = z; y2 = track_y (net_count k) }) wide)) (record {
-        order = record { wide = omega (arith, ints); tall = omega (arith, ints) };
-        x1 = near_pos 0 (omega arith);
-        y1 = near_pos 0 (omega arith);
-        x2 = near_pos (2000 + row_wide.0) (omega (arith, low));
-        y2 = near_track (net_count k) few_tracks;
-      })
+    box : IsBoxWithin f.bounds
+    box =
+        let wide : (pos 2000 +ℤ rows_width l (k.instances ∷ [])) ≡ pos (2000 + row_wide.0) = ap (λ (z : ℤ). pos 2000 +ℤ z) (rows_are l row_wide.0 k.instances row_wide.1) in
+        let low = row_wide.2 in
+        subst IsBoxWithin (sym (drawn.box k seen ∙ ap (λ (z : ℤ). record { x1 = pos 0; y1 = pos 0; x2 = z; y2 = track_y (net_count k) }) wide)) (record {
+          order = record { wide = omega (arith, ints); tall = omega (arith, ints) };
+          x1 = near_pos 0 (omega arith);
+          y1 = near_pos 0 (omega arith);
+          x2 = near_pos (2000 + row_wide.0) (omega (arith, low));
+          y2 = near_track (net_count k) few_tracks;
+        })
 
-  title : IsGoodLabel f.name
-  title = subst IsGoodLabel (sym drawn.named) (record { label = (word_of n.name named.name.0, tt); short = short.name })
+    title : IsGoodLabel f.name
+    title = subst IsGoodLabel (sym drawn.named) (record { label = (word_of n.name named.name.0, tt); short = short.name })
 
-  instance_names_are : instance_names f.items ≡ map (λ (i : Node). i.name) n.instances
-  instance_names_are =
-      names_listed f.items
-      ∙ sym (map_twice (λ (m : Member). m.name) (λ (i : Instance). record { name = i.name; model = i.model }) (instances_of f.items))
-      ∙ ap (λ (ms : List Member). map (λ (m : Member). m.name) ms) (sym (drawn.shows k seen).instances)
-      ∙ ap (λ (ms : List Member). map (λ (m : Member). m.name) ms) members
-      ∙ map_twice (λ (m : Member). m.name) member_of n.instances
+    instance_names_are : instance_names f.items ≡ map (λ (i : Node). i.name) n.instances
+    instance_names_are =
+        names_listed f.items
+        ∙ sym (map_twice (λ (m : Member). m.name) (λ (i : Instance). record { name = i.name; model = i.model }) (instances_of f.items))
+        ∙ ap (λ (ms : List Member). map (λ (m : Member). m.name) ms) (sym (drawn.shows k seen).instances)
+        ∙ ap (λ (ms : List Member). map (λ (m : Member). m.name) ms) members
+        ∙ map_twice (λ (m : Member). m.name) member_of n.instances
 
-  lines : AllByRecursion IsLine f.items
-  lines = all_so IsGood IsLine (λ one g. g.line) f.items goods
+    lines : AllByRecursion IsLine f.items
+    lines = all_so IsGood IsLine (λ one g. g.line) f.items goods
 
-  within : AllByRecursion IsItemWithin f.items
-  within = all_so IsGood IsItemWithin (λ one g. g.within) f.items goods
+    within : AllByRecursion IsItemWithin f.items
+    within = all_so IsGood IsItemWithin (λ one g. g.within) f.items goods
 
-  few_bytes : length (text_of f) ≤ 268435456
-  few_bytes =
-      let a = length-append (head_text f.name f.bounds) (items_text f.items) in
-      let b = head_brief f.name f.bounds title.label title.short box.x1 box.y1 box.x2 box.y2 in
-      let c = lines_brief f.items lines within (all_so IsGood IsBrief (λ one g. g.brief) f.items goods) in
-      let d = few_items in
-      let e = few_names in
-      let g = few_members in
-      let h = few_pins in
-      omega (arith, a, b, c, d, e, g, h)
+    few_bytes : length (text_of f) ≤ 268435456
+    few_bytes =
+        let a = length-append (head_text f.name f.bounds) (items_text f.items) in
+        let b = head_brief f.name f.bounds title.label title.short box.x1 box.y1 box.x2 box.y2 in
+        let c = lines_brief f.items lines within (all_so IsGood IsBrief (λ one g. g.brief) f.items goods) in
+        let d = few_items in
+        let e = few_names in
+        let g = few_members in
+        let h = few_pins in
+        omega (arith, a, b, c, d, e, g, h)
 
-  pub is_figure : IsFigure f
-  is_figure = record {
-    name = title.label;
-    box = box.order;
-    lines = all_of IsLine f.items lines;
-    instances = subst (λ (xs : List (List ℕ)). AllPairs (λ a b. a ≢ b) xs) (sym instance_names_are) (apart (map (λ (i : Node). i.name) n.instances) given.sound.names);
-  }
+    pub is_figure : IsFigure f
+    is_figure = record {
+      name = title.label;
+      box = box.order;
+      lines = all_of IsLine f.items lines;
+      instances = subst (λ (xs : List (List ℕ)). AllPairs (λ a b. a ≢ b) xs) (sym instance_names_are) (apart (map (λ (i : Node). i.name) n.instances) given.sound.names);
+    }
 
-  pub is_within : IsWithinLimits f
-  is_within = record {
-    few = few_bytes;
-    near = record {
-      name = title.short;
-      x1 = box.x1;
-      y1 = box.y1;
-      x2 = box.x2;
-      y2 = box.y2;
-      items = all_of IsItemWithin f.items within;
-    };
-  }
+    pub is_within : IsWithinLimits f
+    is_within = record {
+      few = few_bytes;
+      near = record {
+        name = title.short;
+        x1 = box.x1;
+        y1 = box.y1;
+        x2 = box.x2;
+        y2 = box.y2;
+        items = all_of IsItemWithin f.items within;
+      };
+    }
 
 pub drawing_can_be_written : DrawingCanBeWritten
 drawing_can_be_written l n f passed given named short few ports drawn =
-    (is_figure l n f passed given named short few ports drawn, is_within l n f passed given named short few ports drawn)
+    (is_figure l n passed given named short few ports f drawn, is_within l n passed given named short few ports f drawn)

@@ -22,7 +22,7 @@ use Rattle.ocp_grid.specs.Points.{nodes_of, AreRoutesOf}
 pub record AreDrawable (l : Library) (n : InMemory) (p : InRow) (routes : NetRoutes) : Type 0 where
   pub metals : ℕ
   pub few : metals ≤ 6
-  pub routes : AreRoutesOf l n p metals routes
+  pub trees : AreRoutesOf l n p metals routes
 
 -- It has the netlist's name, and its lines and its box are those of the placement with the wires and vias of the routes. So terminals of
 -- different classes aren't joined, a signal pin in the class of a supply is joined to no other terminal, each pin of a supply is joined

@@ -11,11 +11,14 @@ use Rattle.net_right.specs.View.{IsSeenAs}
 use Rattle.net_right.specs.Writable.{CanBeNamed, HasShortNames}
 use Rattle.net_drawing.specs.Drawing.{IsDrawable}
 use Rattle.ap_io.specs.declared.figure.Figure.{Figure}
-use Rattle.ap_io.specs.ApText.{IsFigure, IsWithinLimits}
+use Rattle.ap_io.specs.ApText.{IsFigure, HasNearLines, IsWithinLimits}
 use Rattle.ocp_place.specs.Drawable.{IsDrawableIn}
 use Rattle.ocp_place.specs.Nets.{is_signal, signal_ports, net_number}
+use Rattle.ocp_place.specs.Placed.{InRow, IsRowPlacementOf}
 use Rattle.nero_tracks.specs.Columns.{HaveOwnColumns}
+use Rattle.grid_core.specs.Routes.{NetRoutes}
 use Rattle.route_draw.specs.Drawn.{IsDrawnInTracks}
+use Rattle.route_draw.specs.Grid.{AreDrawable, IsDrawnInGrid, IsMarked}
 
 -- A netlist may be drawn over a checked library where no two pins of a cell in use are reached in one column, as each netlist of layouts
 -- that it is seen as.
@@ -40,3 +43,15 @@ abbrev pub DrawingCanBeWritten : Type 0
 DrawingCanBeWritten =
     (l : Library) (n : InMemory) (f : Figure) → HasPassed false l → IsDrawableIn l n → CanBeNamed n → HasShortNames n
     → HasFewPins n → length n.ports ≤ 8192 → IsDrawnInTracks l n f → IsFigure f × IsWithinLimits f
+
+-- So can the figure of routes over rows, but that its text may be longer.
+abbrev pub GridDrawingCanBeWritten : Type 0
+GridDrawingCanBeWritten =
+    (l : Library) (n : InMemory) (p : InRow) (routes : NetRoutes) (f : Figure) → IsRowPlacementOf l n p → AreDrawable l n p routes → CanBeNamed n → HasShortNames n
+    → HasFewPins n → length n.ports ≤ 8192 → IsDrawnInGrid l n p routes f → IsFigure f × HasNearLines f
+
+-- And so can this figure with marks at the points of nets.
+abbrev pub MarkedDrawingCanBeWritten : Type 0
+MarkedDrawingCanBeWritten =
+    (l : Library) (n : InMemory) (p : InRow) (routes : NetRoutes) (f g : Figure) → IsRowPlacementOf l n p → AreDrawable l n p routes → CanBeNamed n → HasShortNames n
+    → HasFewPins n → length n.ports ≤ 8192 → IsDrawnInGrid l n p routes f → IsMarked l n p f g → IsFigure g × HasNearLines g

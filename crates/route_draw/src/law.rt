@@ -1,5 +1,7 @@
 // What is true of drawings.
-ghost use Rattle.route_draw.specs.Law.{NetlistsAreDrawable, RightDrawingsAreRight, DrawingCanBeWritten};
+ghost use Rattle.route_draw.specs.Law.{NetlistsAreDrawable, RightDrawingsAreRight, DrawingCanBeWritten, GridDrawingCanBeWritten, MarkedDrawingCanBeWritten};
+
+use ocp_grid::{placements_are_in_rows, points_are_apart};
 
 /// A netlist of usable cells may be drawn over a checked library, where no two pins of a cell in use are reached in one column.
 pub fn netlists_are_drawable()
@@ -15,3 +17,18 @@ pub fn right_drawings_are_right()
 pub fn drawing_can_be_written()
     ensures { DrawingCanBeWritten }
 {}
+
+/// So can that of routes over rows, whose text may be longer than a source's.
+pub fn grid_drawing_can_be_written()
+    ensures { GridDrawingCanBeWritten }
+{
+    placements_are_in_rows();
+}
+
+/// And so can this figure with marks at the points of nets.
+pub fn marked_drawing_can_be_written()
+    ensures { MarkedDrawingCanBeWritten }
+{
+    placements_are_in_rows();
+    points_are_apart();
+}

@@ -2,11 +2,16 @@
 ghost use Rattle.std.specs.Prelude.{◌≡◌, ◌++◌, ◌∷◌, [], pos, OnOk, IfOk};
 ghost use Rattle.std.specs.Option.{option_copied};
 ghost use Rattle.vlsi_base.specs.Names.{scalar};
-ghost use Rattle.ocp_rows.specs.Placement.{contact_at, west_port as west_port_of};
+ghost use Rattle.sym_geom.specs.declared.grid.TheConstants.{WIRE_WIDTH as wire_width};
+ghost use Rattle.sym_geom.specs.declared.layer.Layer.TheVariants.{Alu};
+ghost use Rattle.sym_geom.specs.declared.layer.Level.TheVariants.{Three};
+ghost use Rattle.ocp_rows.specs.Placement.{contact_at, north_port as north_port_of, west_port as west_port_of};
 ghost use Rattle.route_draw.specs.Pieces.{IsNear, wire_line};
 
 use std::alloc::{AllocError, Global};
-use sym_geom::{Connector, Contact, Direction, Item, Items, Layer, Segment, Side, Via};
+use sym_geom::{
+    Connector, Contact, Direction, Item, Items, Layer, Level, Segment, Side, Via, WIRE_WIDTH,
+};
 use vlsi_base::{Name, Text};
 
 /// A point.
@@ -115,5 +120,28 @@ pub(crate) fn west_port(
         index: 0,
         side: Side::West,
         layer: port.layer,
+    }))
+}
+
+/// Adds a port at the north side, on metal 3.
+pub(crate) fn north_port(
+    alloc: Global,
+    items: &mut Items,
+    at: Spot,
+    name: &Name,
+) -> Result<(), AllocError>
+    requires { IsNear at }
+    ensures { OnOk result (items.new
+        ≡ items.old ++ north_port_of (Alu Three) (pos wire_width) (pos at.x) (pos at.y) name.now ∷ []) }
+{
+    let name = name.copy(alloc)?;
+    items.push(Item::Connector(Connector {
+        x: at.x as i64,
+        y: at.y as i64,
+        width: i64::from(WIRE_WIDTH),
+        name: Some(name),
+        index: 0,
+        side: Side::North,
+        layer: Layer::Alu(Level::Three),
     }))
 }

@@ -1,22 +1,20 @@
-// Ports, instances and supplies of one row.
-ghost use Rattle.std.specs.Prelude.{◌≡◌, ◌++◌, ◌∷◌, ◌≤◌, ◌<◌, ◌^◌, [], Some, pos, map, length, IfOk, OnOk};
+// Ports and instances of one row.
+ghost use Rattle.std.specs.Prelude.{◌≡◌, ◌++◌, ◌≤◌, ◌<◌, ◌^◌, pos, map, length, IfOk, OnOk};
 ghost use Rattle.std.specs.List.{All};
-ghost use Rattle.sym_geom.specs.declared.layer.Layer.TheVariants.{Alu};
-ghost use Rattle.sym_geom.specs.declared.layer.Level.TheVariants.{One};
 ghost use Rattle.vlsi_base.specs.Names.{scalar};
 ghost use Rattle.machine_core.specs.Named.{is_same_name};
 ghost use Rattle.net_core.specs.Frame.{instance_of};
 ghost use Rattle.ocp_place.specs.Nets.{is_signal};
-ghost use Rattle.ocp_rows.specs.Placement.{level_wire, supply_ports, track_ports, track_y};
-ghost use Rattle.route_draw.specs.Pieces.{signal_names, instance_lines, strap_lines, row_supplies};
+ghost use Rattle.ocp_rows.specs.Placement.{supply_ports, track_ports, track_y};
+ghost use Rattle.route_draw.specs.Pieces.{signal_names, instance_lines};
 
-use crate::lines::{Spot, WestPort, Wire, push_via, push_wire, scalar, west_port};
+use crate::lines::{Spot, WestPort, scalar, west_port};
 use cell_pins::is_scalar;
 use net_core::Node;
 use std::alloc::{AllocError, Global};
 use sym_geom::{
-    Contact, Direction, FIRST_CELL_X, FIRST_TRACK_Y, Instance, Item, Items, Layer, Level, PITCH,
-    RAIL_WIDTH, Transform, VDD_RAIL_Y, VDD_STRAP_X, VSS_RAIL_Y, VSS_STRAP_X, WIRE_WIDTH,
+    FIRST_CELL_X, FIRST_TRACK_Y, Instance, Item, Items, Layer, Level, PITCH, RAIL_WIDTH, Transform,
+    VDD_RAIL_Y, VSS_RAIL_Y, VSS_STRAP_X, WIRE_WIDTH,
 };
 use vlsi_base::{Name, Port, Text};
 
@@ -131,72 +129,4 @@ pub(crate) fn push_instances(
         }))?;
     }
     Ok(())
-}
-
-/// Adds the rail of a supply, up to the end of the row.
-fn push_rail(
-    alloc: Global,
-    items: &mut Items,
-    end: u64,
-    y: u16,
-    name: &Name,
-) -> Result<(), AllocError>
-    requires { end ≤ 100000000000000 }
-    ensures { OnOk result (items.new ≡ items.old
-        ++ level_wire (Alu One) (pos RAIL_WIDTH) (pos VSS_STRAP_X) (pos end) (pos y) (Some name.now) ∷ []) }
-{
-    let rail = Wire {
-        layer: Layer::Alu(Level::One),
-        width: RAIL_WIDTH,
-        direction: Direction::Right,
-        from: Spot {
-            x: u64::from(VSS_STRAP_X),
-            y: u64::from(y),
-        },
-        to: Spot {
-            x: end,
-            y: u64::from(y),
-        },
-    };
-    push_wire(alloc, items, rail, Some(name))
-}
-
-/// Adds the strap of a supply with its vias.
-fn push_strap(
-    alloc: Global,
-    items: &mut Items,
-    x: u16,
-    y: u16,
-    name: &Name,
-) -> Result<(), AllocError>
-    ensures { OnOk result (items.new ≡ items.old ++ strap_lines x y name.now) }
-{
-    let at = Spot {
-        x: u64::from(x),
-        y: u64::from(y),
-    };
-    let strap = Wire {
-        layer: Layer::Alu(Level::Three),
-        width: WIRE_WIDTH,
-        direction: Direction::Up,
-        from: at,
-        to: at,
-    };
-    push_wire(alloc, items, strap, Some(name))?;
-    push_via(alloc, items, Contact::Via1, at, Some(name))?;
-    push_via(alloc, items, Contact::Via2, at, Some(name))
-}
-
-/// Adds rails and straps of a row that is so wide.
-pub(crate) fn push_supplies(alloc: Global, items: &mut Items, width: u64) -> Result<(), AllocError>
-    requires { width ≤ 70000000000000 }
-    ensures { OnOk result (items.new ≡ items.old ++ row_supplies width) }
-{
-    let vss = scalar(alloc, b"vss")?;
-    let vdd = scalar(alloc, b"vdd")?;
-    let end = u64::from(FIRST_CELL_X) + width;
-    push_rail(alloc, items, end, VSS_RAIL_Y, &vss)?;
-    push_rail(alloc, items, end, VDD_RAIL_Y, &vdd)?;
-    push_strap(alloc, items, VSS_STRAP_X, VSS_RAIL_Y, &vss)?;
-    push_strap(alloc, items, VDD_STRAP_X, VDD_RAIL_Y, &vdd)
 }

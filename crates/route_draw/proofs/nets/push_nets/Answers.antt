@@ -1,9 +1,7 @@
-use Rattle.std.proofs.Common.{◌≡◌, ◌++◌, ◌<◌, ◌+◌, ℕ, suc, List, map, drop, length, Option, None, Some, get_or, sym, ap, ◌∙◌, append_assoc, arith, Bor}
+use Rattle.std.proofs.Common.{◌≡◌, ◌++◌, ◌<◌, ◌+◌, ℕ, suc, List, map, drop, length, Option, None, get_or, sym, ap, ◌∙◌, append_assoc, arith}
 use Rattle.std.specs.Prelude.{slice_get}
 use Rattle.std.specs.Option.{option_copied}
-use Rattle.std.specs.Slice.{IsItemAt}
 use Rattle.std.proofs.lemmas.List.{at_drop_more}
-use Rattle.std.proofs.lemmas.Option.{slice_get_past, slice_get-get_or}
 use Rattle.vlsi_base.specs.declared.name.Name.{Name}
 use Rattle.sym_geom.specs.declared.item.Item.{Item}
 use Rattle.cell_model.specs.Access.{Point}
@@ -13,12 +11,8 @@ use Rattle.ocp_place.specs.Spans.{shown_span}
 use Rattle.nero_tracks.specs.declared.route.Track.{Track}
 use Rattle.nero_tracks.specs.Tracks.{net_pins, ends_of}
 use Rattle.route_draw.specs.Pieces.{net_lines, all_lines}
+use Rattle.route_draw.proofs.Lists.{got}
 use Rattle.route_draw.proofs.nets.push_nets.Goals as goal
-
--- what `get` gives
-got : {A : Type 0} (xs : List A) (i : ℕ) (r : Option (Bor A)) → IsItemAt xs i r → option_copied r ≡ slice_get xs i
-got xs i None h = sym (slice_get_past xs i h.3)
-got xs i (Some x) h = sym (slice_get-get_or xs i x.now h.3.0 ∙ ap (λ y. Some y) (sym h.1))
 
 abbrev nowhere : Track
 nowhere = record { class = 0; span = None }

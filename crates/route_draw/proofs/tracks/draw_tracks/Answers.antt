@@ -1,7 +1,7 @@
 use Rattle.std.proofs.Common.{ℕ, List, ◌+◌, pos, ap, ◌∙◌, arith}
 use Rattle.vlsi_base.specs.Names.{scalar}
 use Rattle.route_draw.proofs.Drawing.{starts_many, tracks_few, names_few, drawn}
-use Rattle.route_draw.proofs.draw.draw_tracks.Goals as goal
+use Rattle.route_draw.proofs.tracks.draw_tracks.Goals as goal
 
 pub lines-requires-clause-starts : goal.lines-requires-clause-starts
 lines-requires-clause-starts c =

@@ -10,10 +10,9 @@ ghost use Rattle.sym_geom.specs.declared.grid.TheConstants.{PITCH as pitch, FIRS
 ghost use Rattle.route_draw.specs.Pieces.{signal_names, instance_lines, row_supplies, all_lines};
 ghost use Rattle.route_draw.specs.Drawn.{IsDrawnInTracks};
 
+use crate::grid_rows::push_supplies;
 use crate::nets::push_nets;
-use crate::row::{
-    push_instances, push_supplies, push_supply_ports, push_track_ports, signal_names, track_y,
-};
+use crate::row::{push_instances, push_supply_ports, push_track_ports, signal_names, track_y};
 use ap_io::Figure;
 use cell_checks::Library;
 use nero_tracks::Track;
@@ -67,7 +66,7 @@ fn lines(
         netlist.nodes(),
         placement.starts(),
     )?;
-    push_supplies(alloc, &mut items, placement.width())?;
+    push_supplies(alloc, &mut items, placement.width(), 1)?;
     push_nets(alloc, &mut items, &names, placement, tracks)?;
     Ok(items)
 }

@@ -1,17 +1,12 @@
-use Rattle.std.proofs.Common.{◌≡◌, ℕ, ◌++◌, List, [], ap, ◌∙◌, append_assoc, map}
+use Rattle.std.proofs.Common.{◌≡◌, ℕ, ◌++◌, List, ap, ◌∙◌, map}
 use Rattle.vlsi_base.specs.declared.name.Name.{Name}
 use Rattle.vlsi_base.specs.declared.name.Port.{Port}
 use Rattle.net_core.specs.Frame.{instance_of}
 use Rattle.net_core.specs.Netlist.{Instance}
 use Rattle.ocp_rows.specs.Placement.{supply_ports, track_ports}
 use Rattle.route_draw.specs.Pieces.{signal_names, instance_lines, row_supplies, all_lines}
-use Rattle.route_draw.proofs.draw.lines.Goals as goal
-
-joined : {A : Type 0} (nothing none first second third fourth fifth a b c d e : List A) → nothing ≡ [] → none ≡ nothing → first ≡ none ++ a → second ≡ first ++ b → third ≡ second ++ c → fourth ≡ third ++ d → fifth ≡ fourth ++ e
-    → fifth ≡ a ++ (b ++ (c ++ (d ++ e)))
-joined {A} nothing none first second third fourth fifth a b c d e o p q r s t u =
-    u ∙ ap (λ (xs : List A). xs ++ e) (t ∙ ap (λ (xs : List A). xs ++ d) (s ∙ ap (λ (xs : List A). xs ++ c) (r ∙ ap (λ (xs : List A). xs ++ b) (q ∙ ap (λ (xs : List A). xs ++ a) (p ∙ o)))))
-    ∙ append_assoc ((a ++ b) ++ c) d e ∙ append_assoc (a ++ b) c (d ++ e) ∙ append_assoc a b (c ++ (d ++ e))
+use Rattle.route_draw.proofs.Lists.{joined}
+use Rattle.route_draw.proofs.tracks.lines.Goals as goal
 
 pub returns : goal.returns
 returns c =
