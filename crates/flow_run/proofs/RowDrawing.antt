@@ -31,7 +31,7 @@ use Rattle.ocp_grid.specs.Law.{PlacementsAreInRows}
 use Rattle.ocp_grid.specs.Points.{AreRoutesOf}
 use Rattle.nero_nets.specs.Marks.{TellsNets}
 use Rattle.nero_nets.specs.Law.{MarksTellNets}
-use Rattle.route_draw.specs.Grid.{IsDrawnInGrid, IsMarked}
+use Rattle.route_draw.specs.Grid.{AreDrawable, IsDrawnInGrid, IsMarked}
 use Rattle.route_draw.specs.Law.{GridDrawingCanBeWritten, MarkedDrawingCanBeWritten, RightGridDrawingsAreRight}
 use Rattle.flow_netlist.specs.Laws.{DrivenIsGood}
 use Rattle.flow_run.specs.Origin.{Origin}
@@ -88,14 +88,15 @@ counted reported =
     let drawn = t.shown.drawn in
     let f = t.shown.figure in
     let ports = h.soon.ports in
-    let fits = written l n p t.routes f placed h.soon.named h.soon.short h.soon.few (omega (arith, ports)) drawn in
+    let drawable : AreDrawable l n p t.routes = record { metals = metals; few = few; routes = t.routed.trees } in
+    let fits = written l n p t.routes f placed drawable h.soon.named h.soon.short h.soon.few (omega (arith, ports)) drawn in
     record {
       figure = f;
       netlist = k;
       placement = rows_of k p;
       file = subst (λ (b : List ℕ). IsApLines b f) (sym t.shown.text) (again f fits.0 fits.1);
       named = drawn.named ∙ ap (λ (name : List ℕ). Some (scalar name)) r.named;
-      extracts = extracted l n h.o k p t.routes f passed placed h.ordered right seen drawn (t.routed.whole k seen);
+      extracts = extracted l n h.o k p t.routes f placed h.ordered right seen drawn (t.routed.whole k seen);
       well = r.well;
       agrees = r.agrees;
       by_states = r.by_states;
@@ -144,7 +145,8 @@ stuck_layout well written again runs back good in_rows keeps marked_keeps tells 
     let marked = t.shown.marked in
     let w : Wiring = drawn.wiring in
     let ports = h.soon.ports in
-    let fits = written l n p t.routes plain f placed h.soon.named h.soon.short h.soon.few (omega (arith, ports)) drawn marked in
+    let drawable : AreDrawable l n p t.routes = record { metals = metals; few = few; routes = t.trees } in
+    let fits = written l n p t.routes plain f placed drawable h.soon.named h.soon.short h.soon.few (omega (arith, ports)) drawn marked in
     let over = routed in_rows l n p k metals t.routes plain placed seen few t.trees drawn in
     let lines : f.items ≡ part_items k l (net_number k l) q instances w =
     marked.lines k seen ∙ ap (λ (items : List Item). items ++ marks k l (net_number k l) q instances) (drawn.lines k seen) in

@@ -84,7 +84,7 @@ module _ (again : CircuitsAreReadAgain) (written : CircuitsCanBeWritten) where
       let stand = stood (with_source old c) c.flow h.first h.more h.first_read h.more_read in
       let same : get_or h.first 0 [] ≡ circuit_text c = held_same old c.flow.source (circuit_text c) (get_or h.first 0 []) stand.source_is in
       elim h.answered [
-        inl refused ↦ refused_so c fit (with_source old c) (get_or h.first 1 []) h.more stand.catal_is stand.cells_are s
+        | inl refused ↦ refused_so c fit (with_source old c) (get_or h.first 1 []) h.more stand.catal_is stand.cells_are s
             (subst (λ (source : List ℕ). IsFlowRefusal c.flow source (get_or h.first 1 []) h.more s) same refused.1)
         | inr stuck ↦ subst (λ (x : Status). IsForLibrary c (with_source old c) x) (sym stuck.shown.status) tt
       ]

@@ -25,13 +25,16 @@ use flow_words::FlowCommand;
 use grid_core::Routes;
 use loon_drive::Driven;
 use machine_core::alike_law;
-use maze_drawing::{marked_routes_keep_nets, routes_keep_nets, routes_show_netlist};
+use maze_drawing::{marked_routes_keep_nets, routes_keep_nets};
 use nero_nets::{RouteError, grids_are_small, marks_tell_nets, route_all};
 use net_core::Netlist;
 use net_right::right_is_well_formed;
 use ocp_grid::placements_are_in_rows;
 use ocp_place::{Placement, half_perimeter, right_may_be_drawn, row_place};
-use route_draw::{draw, grid_drawing_can_be_written, mark};
+use route_draw::{
+    draw, grid_drawing_can_be_written, mark, marked_drawing_can_be_written,
+    right_grid_drawings_are_right,
+};
 use std::alloc::{AllocError, Global};
 use tool_drive::{Product, Refusal, Status, Written};
 use vlsi_base::{FileBytes, FileName, Terminal};
@@ -183,12 +186,15 @@ pub(crate) fn row_product(
     marks_tell_nets();
     routes_keep_nets();
     marked_routes_keep_nets();
-    routes_show_netlist();
+    right_grid_drawings_are_right();
     grid_drawing_can_be_written();
+    marked_drawing_can_be_written();
     lines_are_read_again();
     // A library has passed its checks, so it has a table of pins, by which it is said what placing and drawing ask.
     libraries_have_tables();
     let _ = library.cells();
+    // A netlist has no more classes than 32 bits number.
+    let _ = driven.netlist.count();
     let rows = command.rows.unwrap_or(1);
     let placement = row_place(alloc, &driven.netlist, library, rows)?;
     let written = row_text(

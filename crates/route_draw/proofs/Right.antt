@@ -19,7 +19,7 @@ use Rattle.net_drawing.proofs.Untied.{untied_is_extracted}
 use Rattle.ocp_place.specs.Drawable.{IsDrawableIn}
 use Rattle.ocp_place.proofs.Seen.{own_cell, orderly}
 use Rattle.nero_tracks.proofs.Numbered.{nets_are_numbered}
-use Rattle.route_draw.specs.Law.{NetlistsAreDrawable, RightDrawingsAreRight}
+use Rattle.route_draw.specs.Law.{NetlistsAreDrawable, RightDrawingsAreRight, RightGridDrawingsAreRight}
 
 pub netlists_are_drawable : NetlistsAreDrawable
 netlists_are_drawable l n k passed given own seen = nets_are_numbered k l (orderly l n passed given k seen) columns where
@@ -39,3 +39,10 @@ right_drawings_are_right l n m k f passed given checked right seen drawn =
     let well = (seen_is_well_formed n l m k given.sound checked right (its_pins l n given) seen).0 in
     let counted = (orderly l n passed given k seen).counted in
     untied_is_extracted f.items l k (drawn.shows k seen) (record { high = well.high; low = well.low; numbered = counted.numbered; used = counted.used })
+
+pub right_grid_drawings_are_right : RightGridDrawingsAreRight
+right_grid_drawings_are_right l n m k p routes f placed checked right seen drawn whole =
+    let given = placed.drawable in
+    let well = (seen_is_well_formed n l m k given.sound checked right (its_pins l n given) seen).0 in
+    let counted = (orderly l n placed.passed given k seen).counted in
+    untied_is_extracted f.items l k (drawn.shows k seen whole) (record { high = well.high; low = well.low; numbered = counted.numbered; used = counted.used })

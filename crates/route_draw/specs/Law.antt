@@ -16,7 +16,10 @@ use Rattle.ocp_place.specs.Drawable.{IsDrawableIn}
 use Rattle.ocp_place.specs.Nets.{is_signal, signal_ports, net_number}
 use Rattle.ocp_place.specs.Placed.{InRow, IsRowPlacementOf}
 use Rattle.nero_tracks.specs.Columns.{HaveOwnColumns}
+use Rattle.ocp_rows.specs.Placement.{net_count}
+use Rattle.ocp_grid.specs.Points.{nodes_of}
 use Rattle.grid_core.specs.Routes.{NetRoutes}
+use Rattle.grid_core.specs.Trees.{AreWhole}
 use Rattle.route_draw.specs.Drawn.{IsDrawnInTracks}
 use Rattle.route_draw.specs.Grid.{AreDrawable, IsDrawnInGrid, IsMarked}
 
@@ -55,3 +58,9 @@ abbrev pub MarkedDrawingCanBeWritten : Type 0
 MarkedDrawingCanBeWritten =
     (l : Library) (n : InMemory) (p : InRow) (routes : NetRoutes) (f g : Figure) → IsRowPlacementOf l n p → AreDrawable l n p routes → CanBeNamed n → HasShortNames n
     → HasFewPins n → length n.ports ≤ 8192 → IsDrawnInGrid l n p routes f → IsMarked l n p f g → IsFigure g × HasNearLines g
+
+-- The drawing of whole routes over the rows of a right netlist gives exactly this netlist.
+abbrev pub RightGridDrawingsAreRight : Type 0
+RightGridDrawingsAreRight =
+    (l : Library) (n : InMemory) (m : Machine) (k : AbstractNetlist) (p : InRow) (routes : NetRoutes) (f : Figure) → IsRowPlacementOf l n p → IsChecked m
+    → IsRightNetlist n l m → IsSeenAs n k → IsDrawnInGrid l n p routes f → AreWhole (nodes_of k l p) (net_count k) routes → Extracts f.items l k

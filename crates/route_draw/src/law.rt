@@ -1,5 +1,5 @@
 // What is true of drawings.
-ghost use Rattle.route_draw.specs.Law.{NetlistsAreDrawable, RightDrawingsAreRight, DrawingCanBeWritten, GridDrawingCanBeWritten, MarkedDrawingCanBeWritten};
+ghost use Rattle.route_draw.specs.Law.{NetlistsAreDrawable, RightDrawingsAreRight, RightGridDrawingsAreRight, DrawingCanBeWritten, GridDrawingCanBeWritten, MarkedDrawingCanBeWritten};
 
 use ocp_grid::{placements_are_in_rows, points_are_apart};
 
@@ -11,6 +11,11 @@ pub fn netlists_are_drawable()
 /// The drawing of a netlist that is right for some machine gives exactly this netlist.
 pub fn right_drawings_are_right()
     ensures { RightDrawingsAreRight }
+{}
+
+/// So does the drawing of whole routes over its rows.
+pub fn right_grid_drawings_are_right()
+    ensures { RightGridDrawingsAreRight }
 {}
 
 /// The figure of a netlist with names that can be written and within the limits of sources can be written.

@@ -13,6 +13,6 @@ mod tracks;
 pub use grid::{draw, mark};
 pub use law::{
     drawing_can_be_written, grid_drawing_can_be_written, marked_drawing_can_be_written,
-    netlists_are_drawable, right_drawings_are_right,
+    netlists_are_drawable, right_drawings_are_right, right_grid_drawings_are_right,
 };
 pub use tracks::draw_tracks;

@@ -40,4 +40,3 @@ returns-in-Err-mapped c =
     subst (λ (r : Refusal). IsJudged (LaysOut c.args.command.now c.args.source.now c.args.catal.now c.args.cells.now) (Err r)) (sym c.plain-in-Err-mapped.ensures)
     (by_budget c.args.command.now c.args.source.now c.args.catal.now c.args.cells.now (origin_view c.in-Ok.read.source.origin) c.in-Ok.read.source.machine
     c.in-Ok.read.library c.in-Err-mapped.status c.in-Ok.ensures.read c.in-Ok-check_kinds.ensures.covered c.in-Err-mapped.ensures.refused)
-
