@@ -79,8 +79,8 @@ pub row_layout : RightIsWellFormed → RightGridDrawingsAreRight → GridDrawing
     → HasPassed false l → MayBeDrawn false l o m fanout n delay → IsRowPlacementOf l n p → IsFirstPlacement l n rows p → IsEvenPlacement l n p → metals ≤ 6
     → IsRoutedText l n p metals bytes → IsLengthInRows l n p long → IsGreatestDcount m nodes
     → report ≡ report_by o m nodes (length n.instances) (n.count - 2) delay long 0 → IsRightLayout bytes o m l fanout (over_rows rows metals) report
-row_layout well extracted written again runs back good in_rows l o m fanout n delay p rows metals bytes long nodes report passed h placed first even few t measured
-counted reported =
+row_layout well extracted written again runs back good in_rows l o m fanout n delay p rows metals bytes long nodes report passed h placed first even few t measured counted
+    reported =
     let right = h.netlist.right in
     let k = right.sourced.netlist in
     let seen = right.seen in
