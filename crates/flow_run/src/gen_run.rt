@@ -40,7 +40,7 @@ pub fn circuit_law()
 }
 
 /// Where a run answers 0, source and layout stand whole; the source that it writes is never refused; and where nothing stands in its
-/// way, it answers 0, or out of memory. It costs nothing when it is called.
+/// way, it answers 0, or over rows that a net gets stuck, or out of memory.
 pub fn gen_law()
     ensures headline { RunsHaveHeadlines }
     ensures spared { SourcesAreSpared }

@@ -27,9 +27,9 @@ pub struct FlowCommand {
     pub rows: Option<u32>,
     /// The highest metal on which nets are routed, 4 to 6; without effect beside tracks.
     pub metals: u32,
-    /// The seed of the random words.
+    /// The seed of the random words; the placement doesn't depend on it yet.
     pub seed: u32,
-    /// How often the placement is tried to be made better, at most 1,000,000 times.
+    /// How often the placement is tried to be made better, at most 1,000,000 times; without effect yet.
     pub moves: u32,
     /// The most nodes that a diagram may have, 1 to 4,000,000.
     pub nodes: u32,

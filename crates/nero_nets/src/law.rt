@@ -7,7 +7,7 @@ pub fn grids_are_small()
     ensures { GridsAreSmall }
 {}
 
-/// The marks of a layout whose routes lack points tell which terminals are of one net.
+/// The marks of a layout whose routes lack points tell which terminals are of one net, of as many nets as 64 bits can number.
 pub fn marks_tell_nets()
     ensures { MarksTellNets }
 {}
