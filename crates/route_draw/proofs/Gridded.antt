@@ -45,7 +45,7 @@ use Rattle.route_draw.proofs.Joins.{counted}
 use Rattle.route_draw.proofs.Lists.{by_number}
 use Rattle.route_draw.proofs.Rows.{supplies_are}
 
--- the length of a placement that has some width at least
+-- a block has one column more than ports at least
 pub wide_columns : (width : ℕ) (rows : ℤ) (ports : ℕ) → pos width ≡ int_max rows (pos (PITCH * (ports + 1))) → ports < width / PITCH
 wide_columns width rows ports e =
     let a = int_max_is rows (pos (500 * (ports + 1))) in
@@ -94,14 +94,14 @@ module _ (l : Library) (n : InMemory) (p : InRow) (placed : IsRowPlacementOf l n
       omega (arith, a, e)
 
   module _ (points : List NetPoints) (are : ArePointsIn l n p points) where
-    -- how many nets there are
+    -- there are fewer nets than 32 bits can number
     pub points_few : length p.ends < 2 ^ 32 → length points < 2 ^ 32
     points_few low =
         let a = (are its_netlist its_seen).many in
         let b = (placed.rows its_netlist its_seen).many in
         omega (arith, low, a, b)
 
-    -- the points of a net that stands there
+    -- the points of a net
     points_are : (k : AbstractNetlist) → IsSeenAs n k → (j : ℕ) (net : NetPoints) → Stands points j net
         → net_nodes k l (net_number k l) (rows_of k p) (stood_in k p) j ≡ port_node net.port ++ net.terminals.items
     points_are k seen j net s =

@@ -1,7 +1,6 @@
 // Ports, instances and supplies over rows, every other of which is upside down.
-ghost use Rattle.std.specs.Prelude.{◌≡◌, ◌++◌, ◌∷◌, ◌≤◌, ◌<◌, ◌+◌, ◌^◌, [], map, pos, length, IfOk, OnOk};
+ghost use Rattle.std.specs.Prelude.{◌≡◌, ◌++◌, ◌∷◌, ◌≤◌, ◌<◌, [], map, pos, length, IfOk, OnOk};
 ghost use Rattle.std.specs.List.{All};
-ghost use Rattle.sym_geom.specs.declared.grid.TheConstants.{FIRST_CELL_X as first_x};
 ghost use Rattle.sym_geom.specs.declared.item.Item.TheVariants.{Instance as instance_item};
 ghost use Rattle.ocp_rows.specs.Placement.{turn_of, rail, strap, strap_vias, grid_ports, port_column};
 ghost use Rattle.ocp_place.specs.Stood.{is_turned, stood};
