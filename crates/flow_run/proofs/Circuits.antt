@@ -1,5 +1,5 @@
 -- Runs of `gen`: what is written of a circuit is never refused, the headline, and when an answer of 0 has to come.
-use Rattle.std.proofs.Common.{◌≡◌, ◌⊎◌, inl, inr, ℕ, ◌-◌, ◌≤◌, Bool, true, false, cond, List, [], ◌∷◌, ◌++◌, drop, length, Option, None, Some, option_map, IfSome, Result, Ok, Err, codes, nat_eq, length-append, refl, sym, ap, subst, ◌∙◌, arith}
+use Rattle.std.proofs.Common.{◌≡◌, inl, inr, ℕ, ◌-◌, ◌≤◌, Bool, true, false, cond, List, [], ◌∷◌, ◌++◌, drop, length, Option, None, Some, option_map, IfSome, Result, Ok, Err, codes, nat_eq, length-append, refl, sym, ap, subst, ◌∙◌, arith}
 use Rattle.std.specs.List.{ends_with}
 use Rattle.std.specs.FinMap.{get, insert, get-insert, slice_cmp-IsAntisymmetric, nat_cmp-IsAntisymmetric}
 use Rattle.std.specs.Ordering.{nat_cmp, is_eq}

@@ -19,13 +19,15 @@ use Rattle.tool_drive.specs.declared.size.TheConstants.{MOST_SIZE}
 use Rattle.flow_words.specs.declared.words.FlowCommand.{FlowCommand}
 use Rattle.tool_drive.specs.declared.status.Status.{Status}
 use Rattle.tool_drive.specs.declared.status.Status.TheVariants as status
+use Rattle.std.specs.Prelude.{Result, Ok, IfOk, IfErr}
+use Rattle.tool_drive.specs.declared.tool.Product.{Product}
 use Rattle.tool_drive.specs.declared.tool.Refusal.{Refusal}
 use Rattle.tool_drive.specs.Table.{IsJudged, IsFair, refusal}
 use Rattle.tool_drive.specs.Refusals.{MemoryOr, OfFile, of_file, memory_then, fair_then, judged as judged_by}
 use Rattle.flow_run.specs.Origin.{Origin, IsSourceFor, IsSourceRefusal}
 use Rattle.flow_run.specs.Flow.{IsSourceOf, AreRead, IsNoSource, no_list, no_text, over_size, IsUnread, no_source, no_cell, IsFlowRefusal, unread, uncovered, over_budget, IsWithinNodes, LaysOut}
-use Rattle.flow_run.specs.Route.{many_rows}
-use Rattle.flow_run.specs.Drawn.{IsStuckAs}
+use Rattle.flow_run.specs.Route.{many_rows, route_of}
+use Rattle.flow_run.specs.Drawn.{IsDrawnAs, IsStuckAs}
 use Rattle.flow_run.specs.Mapped.{IsMissingIn}
 use Rattle.flow_run.proofs.Judging.{fair_list, fair_library}
 
@@ -115,3 +117,13 @@ pub by_stuck : (c : FlowCommand) (source list : List ℕ) (cells : List (List �
 by_stuck c source list cells o m l r read covered within h =
     fair_then r.status r.part ((c.tracks ≡ false) × IsStuckAs c.out o m l c.fanout (many_rows c.rows) c.metals r) (LaysOut c source list cells (Err r))
     (λ k. inr (record { no_tracks = k.0; o = o; m = m; l = l; read = read; covered = covered; within = within; shown = k.1 })) h
+
+-- and so is a layout
+pub judged_product : (c : FlowCommand) (source list : List ℕ) (cells : List (List ℕ)) (o : Origin) (m : Machine) (l : Library)
+    → AreRead c source list cells o m l → Covers l m → IsWithinNodes m c.nodes → (r : Result Product Refusal)
+    → IfOk r (λ p. IsDrawnAs c.out o m l c.fanout (route_of c) p)
+    → IfErr r (λ e. IsFair e.status e.part ((c.tracks ≡ false) × IsStuckAs c.out o m l c.fanout (many_rows c.rows) c.metals e))
+    → IsJudged (LaysOut c source list cells) r
+judged_product c source list cells o m l read covered within (Ok p) drawn stuck =
+    record { o = o; m = m; l = l; read = read; covered = covered; within = within; drawn = drawn }
+judged_product c source list cells o m l read covered within (Err e) drawn stuck = by_stuck c source list cells o m l e read covered within stuck

@@ -1,5 +1,5 @@
 -- A netlist that may be drawn, once it is placed in rows, routed and drawn, is a right layout; or it shows that a net got stuck.
-use Rattle.std.proofs.Common.{◌≡◌, ℕ, ◌+◌, ◌-◌, ◌<◌, ◌≤◌, Bool, false, List, [], ◌++◌, length, Some, refl, sym, ◌∙◌, ap, subst, arith}
+use Rattle.std.proofs.Common.{◌≡◌, ℕ, ◌-◌, ◌≤◌, false, List, [], ◌++◌, length, Some, inl, inr, refl, sym, ◌∙◌, ap, subst, arith}
 use Rattle.vlsi_base.specs.Names.{scalar}
 use Rattle.vlsi_base.specs.declared.name.Terminal.{Terminal}
 use Rattle.machine_core.specs.Machine.{Machine}
@@ -8,7 +8,6 @@ use Rattle.machine_roots.specs.Roots.{IsGreatestDcount}
 use Rattle.sym_geom.specs.declared.rect.Rect.{Rect}
 use Rattle.sym_geom.specs.declared.item.Item.{Item}
 use Rattle.ap_io.specs.declared.figure.Figure.{Figure}
-use Rattle.ap_io.specs.Spelling.{text_of}
 use Rattle.ap_io.specs.ApText.{IsApLines}
 use Rattle.ap_io.specs.Laws.{LinesAreReadAgain}
 use Rattle.cell_model.specs.Library.{Library}
@@ -19,8 +18,8 @@ use Rattle.net_meaning.specs.Breaches.{Breaches}
 use Rattle.net_right.specs.View.{IsSeenAs}
 use Rattle.net_right.specs.Laws.{RightIsWellFormed}
 use Rattle.net_drawing.specs.Shown.{KeepsNetlist}
-use Rattle.ocp_rows.specs.Placement.{Placement, IsPlaced, block_box, net_count}
-use Rattle.row_meaning.specs.First.{first_rows, AreEven}
+use Rattle.ocp_rows.specs.Placement.{IsPlaced, net_count}
+use Rattle.row_meaning.specs.First.{AreEven}
 use Rattle.ocp_place.specs.Nets.{net_number}
 use Rattle.ocp_place.specs.Stood.{named_rows, instance_columns}
 use Rattle.ocp_place.specs.Placed.{InRow, IsRowPlacementOf, IsFirstPlacement, IsEvenPlacement, rows_of, stood_in}
@@ -31,17 +30,21 @@ use Rattle.ocp_grid.specs.Law.{PlacementsAreInRows}
 use Rattle.ocp_grid.specs.Points.{AreRoutesOf}
 use Rattle.nero_nets.specs.Marks.{TellsNets}
 use Rattle.nero_nets.specs.Law.{MarksTellNets}
-use Rattle.route_draw.specs.Grid.{AreDrawable, IsDrawnInGrid, IsMarked}
+use Rattle.route_draw.specs.Grid.{AreDrawable, IsDrawnInGrid}
 use Rattle.route_draw.specs.Law.{GridDrawingCanBeWritten, MarkedDrawingCanBeWritten, RightGridDrawingsAreRight}
 use Rattle.flow_netlist.specs.Laws.{DrivenIsGood}
 use Rattle.flow_run.specs.Origin.{Origin}
 use Rattle.flow_run.specs.Report.{report_by}
 use Rattle.flow_run.specs.Route.{over_rows}
-use Rattle.flow_run.specs.GridLayout.{IsFirstInRows, IsOverRows}
+use Rattle.flow_run.specs.GridLayout.{IsFirstInRows}
 use Rattle.flow_run.specs.RightLayout.{IsRightLayout}
 use Rattle.flow_run.specs.StuckLayout.{IsStuckLayout}
-use Rattle.flow_run.specs.Drawn.{MayBeDrawn, IsLengthInRows}
-use Rattle.flow_run.specs.RowText.{IsRoutedText, IsStuckText}
+use Rattle.flow_run.specs.Drawn.{MayBeDrawn, IsLengthInRows, IsStuckAs}
+use Rattle.tool_drive.specs.declared.tool.Refusal.{Refusal}
+use Rattle.tool_drive.specs.Table.{IsFair}
+use Rattle.flow_run.specs.declared.row_layout.NoRoutes.{NoRoutes}
+use Rattle.flow_run.specs.declared.row_layout.NoRoutes.TheVariants as none
+use Rattle.flow_run.specs.RowText.{IsRoutedText, IsStuckText, LacksRoutes, IsRefusedSo}
 use Rattle.flow_run.proofs.Drawing.{right_for, report_same}
 
 -- the first placement, as it is seen
@@ -88,7 +91,7 @@ row_layout well extracted written again runs back good in_rows l o m fanout n de
     let drawn = t.shown.drawn in
     let f = t.shown.figure in
     let ports = h.soon.ports in
-    let drawable : AreDrawable l n p t.routes = record { metals = metals; few = few; routes = t.routed.trees } in
+    let drawable : AreDrawable l n p t.routes = record { metals = metals; few = few; trees = t.routed.trees } in
     let fits = written l n p t.routes f placed drawable h.soon.named h.soon.short h.soon.few (omega (arith, ports)) drawn in
     record {
       figure = f;
@@ -145,7 +148,7 @@ stuck_layout well written again runs back good in_rows keeps marked_keeps tells 
     let marked = t.shown.marked in
     let w : Wiring = drawn.wiring in
     let ports = h.soon.ports in
-    let drawable : AreDrawable l n p t.routes = record { metals = metals; few = few; routes = t.trees } in
+    let drawable : AreDrawable l n p t.routes = record { metals = metals; few = few; trees = t.trees } in
     let fits = written l n p t.routes plain f placed drawable h.soon.named h.soon.short h.soon.few (omega (arith, ports)) drawn marked in
     let over = routed in_rows l n p k metals t.routes plain placed seen few t.trees drawn in
     let lines : f.items ≡ part_items k l (net_number k l) q instances w =
@@ -179,3 +182,15 @@ stuck_layout well written again runs back good in_rows keeps marked_keeps tells 
       keeps = subst (λ (items : List Item). KeepsNetlist items l k) (sym lines) both.0;
       lawful = subst (λ (items : List Item). Breaches items l []) (sym lines) both.1;
     }
+
+-- the refusal of a placement without whole routes
+pub stuck_or_memory : (l : Library) (n : Netlist) (p : InRow) (metals : ℕ) (out : List ℕ) (o : Origin) (m : Machine) (fanout rows : ℕ) (lack : NoRoutes) (r : Refusal)
+    → ((net : ℕ) (terminal : Terminal) (bytes : List ℕ) → IsStuckText l n p metals net terminal bytes → IsStuckLayout bytes o m l fanout rows metals net terminal)
+    → LacksRoutes l n p metals lack → IsRefusedSo out lack r → IsFair r.status r.part (IsStuckAs out o m l fanout rows metals r)
+stuck_or_memory l n p metals out o m fanout rows none.Memory r shows lacks is =
+    subst (λ (x : Refusal). IsFair x.status x.part (IsStuckAs out o m l fanout rows metals x)) (sym is) refl
+stuck_or_memory l n p metals out o m fanout rows (none.NoPath net terminal bytes) r shows lacks (inl is) =
+    subst (λ (x : Refusal). IsFair x.status x.part (IsStuckAs out o m l fanout rows metals x)) (sym is) refl
+stuck_or_memory l n p metals out o m fanout rows (none.NoPath net terminal bytes) r shows lacks (inr is) =
+    subst (λ (x : Refusal). IsFair x.status x.part (IsStuckAs out o m l fanout rows metals x)) (sym is)
+    (record { net = net; terminal = terminal; status = refl; bytes = bytes; part = refl; right = shows net terminal bytes lacks })

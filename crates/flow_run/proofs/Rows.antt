@@ -1,5 +1,5 @@
 -- The rows of `flow`: the headline, and when it has to come.
-use Rattle.std.proofs.Common.{◌≡◌, ◌⊎◌, inl, inr, ℕ, Bool, true, false, ◌∙◌, List, [], ◌∷◌, Option, None, Some, IfSome, Result, Ok, Err, get_or, subst}
+use Rattle.std.proofs.Common.{◌≡◌, inl, inr, ℕ, Bool, true, false, ◌∙◌, List, [], ◌∷◌, Option, None, Some, IfSome, Result, Ok, Err, get_or, subst}
 use Rattle.vlsi_base.specs.declared.name.Terminal.{Terminal}
 use Rattle.vlsi_shelf.specs.Files.{Files}
 use Rattle.vlsi_shelf.specs.Shelf.{Writes}
@@ -59,8 +59,8 @@ ends_memory true s h = inr h
 ends_memory false s h = inr (inl h)
 
 pub ends_stuck : (tracks : Bool) (s : Status) → tracks ≡ false → (net : ℕ) (terminal : Terminal) → s ≡ NoPath net terminal → Ends tracks s
-ends_stuck true s no net terminal h = absurd (cc no)
-ends_stuck false s no net terminal h = inr (inr (net, terminal, h))
+ends_stuck true s never net terminal h = absurd (cc never)
+ends_stuck false s never net terminal h = inr (inr (net, terminal, h))
 
 pub laid_free : WhatIsReadIsNeverRefused → (c : FlowCommand) (before now : Outside) (s : Status) → IsComplete (flow_plan c) (flow_answers c) before now s → IsFree c before now
     → Ends c.tracks s

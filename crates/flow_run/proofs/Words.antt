@@ -1,10 +1,11 @@
 -- The line of a tool's refusals, what words that spell a command come to, and words that no command is read from.
-use Rattle.std.proofs.Common.{◌≡◌, ◌⊎◌, inr, ℕ, Bool, true, false, cond, List, [], ◌∷◌, Option, None, Some, option_map, IfSome, Err, IsErrOf, refl, sym, ◌∙◌, ap, subst}
+use Rattle.std.proofs.Common.{◌≡◌, ℕ, Bool, true, false, cond, List, [], ◌∷◌, Option, None, Some, option_map, IfSome, Err, IsErrOf, refl, sym, ◌∙◌, ap, subst}
 use Rattle.std.specs.Cmp.Lexicographic.{bytes_decides}
 use Rattle.vlsi_shelf.specs.Files.{Files}
 use Rattle.tool_words.specs.Words.{is_word}
 use Rattle.tool_words.specs.declared.words.WordsError.{WordsError}
 use Rattle.tool_words.specs.declared.words.WordsError.TheVariants as words
+use Rattle.flow_words.specs.declared.words.FlowCommand.{FlowCommand}
 use Rattle.flow_words.specs.declared.words.GenCommand.{GenCommand}
 use Rattle.flow_words.specs.Words.{IsWithinBounds, FlowsAreWithinBounds, GensAreWithinBounds, flow, flow_of, gen, gen_of}
 use Rattle.flow_words.proofs.Generate.{gen_sound}

@@ -17,8 +17,8 @@ use Rattle.route_draw.specs.Grid.{IsDrawnInGrid, IsMarked}
 use Rattle.tool_drive.specs.declared.status.Status.TheVariants as status
 use Rattle.tool_drive.specs.declared.tool.Refusal.{Refusal}
 use Rattle.flow_run.specs.Drawn.{part_name}
-use Rattle.flow_run.specs.declared.rows.NoRoutes.{NoRoutes}
-use Rattle.flow_run.specs.declared.rows.NoRoutes.TheVariants as none
+use Rattle.flow_run.specs.declared.row_layout.NoRoutes.{NoRoutes}
+use Rattle.flow_run.specs.declared.row_layout.NoRoutes.TheVariants as none
 
 -- the placement is drawn with routes, and written; or drawn, marked and written
 pub record IsTextOf (l : Library) (n : Netlist) (p : InRow) (routes : NetRoutes) (bytes : List ℕ) : Type 0 where

@@ -11,7 +11,7 @@ ghost use Rattle.flow_words.specs.Words.{IsWithinBounds};
 ghost use Rattle.tool_drive.specs.Table.{IsFair};
 
 use crate::report::report;
-use crate::rows::row_product;
+use crate::row_layout::row_product;
 use crate::source::Counted;
 use ap_io::{Figure, write_ap, written_is_read_again};
 use cell_checks::Library;

@@ -15,7 +15,7 @@ mod one_library;
 mod reading;
 mod report;
 mod right_layout;
-mod rows;
+mod row_layout;
 mod source;
 mod top;
 

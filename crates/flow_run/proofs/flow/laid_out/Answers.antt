@@ -3,7 +3,7 @@ use Rattle.tool_drive.specs.declared.tool.Refusal.{Refusal}
 use Rattle.tool_drive.specs.Table.{IsJudged}
 use Rattle.flow_run.specs.View.{origin_view}
 use Rattle.flow_run.specs.Flow.{LaysOut}
-use Rattle.flow_run.proofs.Refusing.{by_unread, by_kinds, by_budget}
+use Rattle.flow_run.proofs.Refusing.{by_unread, by_kinds, by_budget, judged_product}
 use Rattle.flow_run.proofs.Drawing.{source_declared, few_names, may_be_drawn}
 use Rattle.flow_run.proofs.flow.laid_out.Goals as goal
 
@@ -40,3 +40,8 @@ returns-in-Err-mapped c =
     subst (λ (r : Refusal). IsJudged (LaysOut c.args.command.now c.args.source.now c.args.catal.now c.args.cells.now) (Err r)) (sym c.plain-in-Err-mapped.ensures)
     (by_budget c.args.command.now c.args.source.now c.args.catal.now c.args.cells.now (origin_view c.in-Ok.read.source.origin) c.in-Ok.read.source.machine
     c.in-Ok.read.library c.in-Err-mapped.status c.in-Ok.ensures.read c.in-Ok-check_kinds.ensures.covered c.in-Err-mapped.ensures.refused)
+
+pub returns : goal.returns
+returns c =
+    judged_product c.args.command.now c.args.source.now c.args.catal.now c.args.cells.now (origin_view c.in-Ok.read.source.origin) c.in-Ok.read.source.machine
+    c.in-Ok.read.library c.in-Ok.ensures.read c.in-Ok-check_kinds.ensures.covered c.in-Ok-mapped.ensures.mapped.made.within c.product.result c.product.ensures.drawn c.product.ensures.stuck

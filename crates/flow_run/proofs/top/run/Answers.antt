@@ -20,3 +20,13 @@ pub returns-in-Tool-clause-line : goal.returns-in-Tool-clause-line
 returns-in-Tool-clause-line g c lined =
     subst (λ (k : Command). IsLine (g.T.Sink.seen c.args.out.now) (g.T.Sink.seen c.run_tool.new.out) (line_of (word_of k) c.run_tool.result)) (sym c.in-Tool.is)
     (c.run_tool.ensures.line lined)
+
+pub returns-in-Flow-clause-line : goal.returns-in-Flow-clause-line
+returns-in-Flow-clause-line g c lined =
+    subst (λ (k : Command). IsLine (g.T.Sink.seen c.args.out.now) (g.T.Sink.seen c.run_flow.new.out) (line_of (word_of k) c.run_flow.result)) (sym c.in-Flow.is)
+    (c.run_flow.ensures.line lined)
+
+pub returns-in-Gen-clause-line : goal.returns-in-Gen-clause-line
+returns-in-Gen-clause-line g c lined =
+    subst (λ (k : Command). IsLine (g.T.Sink.seen c.args.out.now) (g.T.Sink.seen c.run_gen.new.out) (line_of (word_of k) c.run_gen.result)) (sym c.in-Gen.is)
+    (c.run_gen.ensures.line lined)

@@ -52,7 +52,7 @@ pub(crate) enum NoRoutes {
 
 impl From<AllocError> for NoRoutes {
     ghost use Rattle.std.specs.Prelude.{◌≡◌};
-    ghost use Rattle.flow_run.specs.declared.rows.NoRoutes.TheVariants.{Memory};
+    ghost use Rattle.flow_run.specs.declared.row_layout.NoRoutes.TheVariants.{Memory};
 
     ghost from_gives = { λ _ e. e ≡ Memory };
 
@@ -130,6 +130,19 @@ fn row_text(
     }
 }
 
+// How many rows are asked for.
+fn rows_of(command: &FlowCommand) -> u32
+    requires { IsWithinBounds command.now }
+    ensures value { result ≡ many_rows command.now.rows }
+    ensures some { 1 ≤ result }
+    ensures few { result ≤ 256 }
+{
+    match command.rows {
+        Some(rows) => rows,
+        None => 1,
+    }
+}
+
 fn part_name(alloc: Global, out: &FileName) -> Result<FileName, AllocError>
     ensures { IfOk result (λ name. name ≡ part_name_of out.now) }
 {
@@ -195,7 +208,7 @@ pub(crate) fn row_product(
     let _ = library.cells();
     // A netlist has no more classes than 32 bits number.
     let _ = driven.netlist.count();
-    let rows = command.rows.unwrap_or(1);
+    let rows = rows_of(command);
     let placement = row_place(alloc, &driven.netlist, library, rows)?;
     let written = row_text(
         alloc,

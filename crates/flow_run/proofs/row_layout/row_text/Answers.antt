@@ -1,0 +1,19 @@
+use Rattle.std.proofs.Common.{subst, arith}
+use Rattle.nero_nets.specs.Answers.{IsRefusal}
+use Rattle.nero_nets.proofs.Routed.{few_columns}
+use Rattle.flow_run.proofs.row_layout.row_text.Goals as goal
+
+pub whole_text-requires-clause-columns : goal.whole_text-requires-clause-columns
+whole_text-requires-clause-columns c =
+    let some = c.requires.metals.0 in
+    few_columns c.args.library.now c.args.netlist.now c.args.placement.now c.requires.placed c.args.metals (omega (arith, some)) c.requires.few
+
+pub part_text-requires-clause-columns : goal.part_text-requires-clause-columns
+part_text-requires-clause-columns c =
+    let some = c.requires.metals.0 in
+    few_columns c.args.library.now c.args.netlist.now c.args.placement.now c.requires.placed c.args.metals (omega (arith, some)) c.requires.few
+
+pub part_text-requires-clause-routes : goal.part_text-requires-clause-routes
+part_text-requires-clause-routes c =
+    let stuck = subst (λ e. IsRefusal c.args.library.now c.args.netlist.now c.args.placement.now c.args.metals e) c.in-Err-NoPath.field-0-is c.in-Err-NoPath.ensures.refused in
+    record { metals = c.args.metals; few = c.requires.metals.1; trees = stuck.0 }
