@@ -13,7 +13,7 @@ use Rattle.tool_words.specs.Spelling.{are_taken}
 use Rattle.flow_words.specs.declared.words.Numbers.{Numbers}
 use Rattle.flow_words.specs.declared.words.FlowCommand.{FlowCommand}
 use Rattle.flow_words.specs.declared.words.GenCommand.{GenCommand}
-use Rattle.flow_words.specs.Words.{flow, gen, size, rows, metals, moves, tracks, numbers_with, numbers_of, has_route, flow_with, flow_on, gen_with, generated, flow_from, gen_from, IsWithinBounds, FlowsAreWithinBounds, GensAreWithinBounds}
+use Rattle.flow_words.specs.Words.{flow, gen, size, rows, metals, moves, tracks, numbers_with, numbers_of, flow_with, flow_on, gen_with, generated, flow_from, gen_from, IsWithinBounds, FlowsAreWithinBounds, GensAreWithinBounds}
 
 -- a number that is given lies within its bounds
 within_by : (least most : ℕ) (text : List ℕ) (n : ℕ) → number_within least most text ≡ Some n → (least ≤ n) × (n ≤ most)
@@ -79,27 +79,22 @@ flow_within (Some s) None t ns l o c fit h = absurd (cc h)
 flow_within (Some s) (Some e) t None l o c fit h = absurd (cc h)
 flow_within (Some s) (Some e) t (Some n) None o c fit h = absurd (cc h)
 flow_within (Some s) (Some e) t (Some n) (Some l) None c fit h = absurd (cc h)
-flow_within (Some s) (Some e) t (Some n) (Some l) (Some o) c fit h = by (has_route t n.rows) h where
-  made : FlowCommand
-  made = record {
-    source = s;
-    library = l;
-    out = o;
-    encoding = e;
-    tracks = t;
-    rows = n.rows;
-    metals = n.metals;
-    seed = n.seed;
-    moves = n.moves;
-    nodes = n.nodes;
-    fanout = n.fanout;
-  }
-
-  by : (b : Bool) → cond b (Some made) None ≡ Some c → IsWithinBounds c
-  by true h =
-      let same : made ≡ c = cc h in
-      subst IsWithinBounds same (record { rows = (fit n refl).rows; metals = (fit n refl).metals })
-  by false h = absurd (cc h)
+flow_within (Some s) (Some e) t (Some n) (Some l) (Some o) c fit h =
+    let made : FlowCommand = record {
+      source = s;
+      library = l;
+      out = o;
+      encoding = e;
+      tracks = t;
+      rows = n.rows;
+      metals = n.metals;
+      seed = n.seed;
+      moves = n.moves;
+      nodes = n.nodes;
+      fanout = n.fanout;
+    } in
+    let same : made ≡ c = cc h in
+    subst IsWithinBounds same (record { rows = (fit n refl).rows; metals = (fit n refl).metals })
 
 on_within : (s : Option (List ℕ)) (e : Option Encoding) (g : Given) (c : FlowCommand) → flow_on s e g ≡ Some c → IsWithinBounds c
 on_within s e g c h = flow_within s e (is_set tracks g) (numbers_of g) (text_of library g) (text_of out g) c (given_within g) h

@@ -13,7 +13,7 @@ use Rattle.tool_words.specs.Spelling.{are_taken}
 use Rattle.flow_words.specs.declared.words.Numbers.{Numbers}
 use Rattle.flow_words.specs.declared.words.FlowCommand.{FlowCommand}
 use Rattle.flow_words.specs.declared.words.GenCommand.{GenCommand}
-use Rattle.flow_words.specs.Words.{gen, size, tracks, numbers_of, has_route, flow_with, flow_on, gen_with, generated, gen_from, gen_of}
+use Rattle.flow_words.specs.Words.{gen, size, tracks, numbers_of, flow_with, flow_on, gen_with, generated, gen_from, gen_of}
 
 -- a number that is given lies within its bounds
 within : (n : ℕ) (text : Option (List ℕ)) → number_or_default size.form text ≡ Some n → (8 ≤ n) × (n ≤ 4000)
@@ -35,27 +35,22 @@ named_by : (e : Encoding) (t : Bool) (ns : Option Numbers) (l o : Option (List �
 named_by e t ns l None f h = absurd (cc h)
 named_by e t None l (Some o) f h = absurd (cc h)
 named_by e t (Some ns) None (Some o) f h = absurd (cc h)
-named_by e t (Some ns) (Some l) (Some o) f h = by (has_route t ns.rows) h where
-  made : FlowCommand
-  made = record {
-    source = o ++ codes ".vbe";
-    library = l;
-    out = o;
-    encoding = e;
-    tracks = t;
-    rows = ns.rows;
-    metals = ns.metals;
-    seed = ns.seed;
-    moves = ns.moves;
-    nodes = ns.nodes;
-    fanout = ns.fanout;
-  }
-
-  by : (b : Bool) → cond b (Some made) None ≡ Some f → IsNamed f
-  by true h =
-      let same : made ≡ f = cc h in
-      subst IsNamed same refl
-  by false h = absurd (cc h)
+named_by e t (Some ns) (Some l) (Some o) f h =
+    let made : FlowCommand = record {
+      source = o ++ codes ".vbe";
+      library = l;
+      out = o;
+      encoding = e;
+      tracks = t;
+      rows = ns.rows;
+      metals = ns.metals;
+      seed = ns.seed;
+      moves = ns.moves;
+      nodes = ns.nodes;
+      fanout = ns.fanout;
+    } in
+    let same : made ≡ f = cc h in
+    subst IsNamed same refl
 
 -- what the words of `gen` ask for
 pub record IsSound (c : GenCommand) : Type 0 where

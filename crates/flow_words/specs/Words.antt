@@ -1,5 +1,5 @@
 -- The words of `flow` and `gen`, and what they ask of them.
-use Rattle.std.specs.Prelude.{◌≡◌, ◌≤◌, IfSome, ℕ, Bool, true, false, ◌||◌, List, [], ◌∷◌, ◌++◌, Option, None, Some, option_map, nat_eq, if◌then◌else◌, codes}
+use Rattle.std.specs.Prelude.{◌≡◌, ◌≤◌, IfSome, ℕ, Bool, true, false, List, [], ◌∷◌, ◌++◌, Option, None, Some, option_map, codes}
 use Rattle.tool_words.specs.declared.values.Encoding.{Encoding}
 use Rattle.tool_words.specs.declared.values.Encoding.TheVariants as encoding_variant
 use Rattle.tool_words.specs.Table.{Entry, Setting, Flag, Number, library, out, encoding, seed, nodes, fanout}
@@ -54,31 +54,20 @@ numbers_with _ _ _ _ _ _ = None
 abbrev pub numbers_of : Given → Option Numbers
 numbers_of g = numbers_with (number_if_given rows g) (number_of metals g) (number_of seed g) (number_of moves g) (number_of nodes g) (number_of fanout g)
 
--- without tracks the cells stand in one row
-abbrev pub is_one : Option ℕ → Bool
-is_one None = false
-is_one (Some n) = nat_eq n 1
-
-abbrev pub has_route : Bool → Option ℕ → Bool
-has_route tracks rows = tracks || is_one rows
-
 abbrev pub flow_with : Option (List ℕ) → Option Encoding → Bool → Option Numbers → Option (List ℕ) → Option (List ℕ) → Option FlowCommand
-flow_with (Some source) (Some encoding) tracks (Some n) (Some library) (Some out) =
-    if has_route tracks n.rows
-    then Some (record {
-      source = source;
-      library = library;
-      out = out;
-      encoding = encoding;
-      tracks = tracks;
-      rows = n.rows;
-      metals = n.metals;
-      seed = n.seed;
-      moves = n.moves;
-      nodes = n.nodes;
-      fanout = n.fanout;
-    })
-    else None
+flow_with (Some source) (Some encoding) tracks (Some n) (Some library) (Some out) = Some (record {
+  source = source;
+  library = library;
+  out = out;
+  encoding = encoding;
+  tracks = tracks;
+  rows = n.rows;
+  metals = n.metals;
+  seed = n.seed;
+  moves = n.moves;
+  nodes = n.nodes;
+  fanout = n.fanout;
+})
 flow_with _ _ _ _ _ _ = None
 
 -- what `flow` is asked to do with a source and an encoding

@@ -1,7 +1,7 @@
 // The words of `flow` and `gen`, and what they ask of them.
 ghost use Rattle.std.specs.Prelude.{◌≡◌, Some, None, IfOk, IsErrOf};
 ghost use Rattle.tool_words.specs.declared.words.WordsError.TheVariants.{Usage};
-ghost use Rattle.flow_words.specs.Words.{numbers_of, has_route, flow_on};
+ghost use Rattle.flow_words.specs.Words.{numbers_of, flow_on};
 
 use std::alloc::Global;
 use tool_words::{
@@ -23,13 +23,14 @@ pub struct FlowCommand {
     pub encoding: Encoding,
     /// Whether each net has a track of its own, above one row of cells; else nets are routed over the rows.
     pub tracks: bool,
-    /// How many rows the cells stand in, 1 to 256, where the words say so; without effect beside tracks.
+    /// How many rows the cells stand in, 1 to 256, where the words say so; else as many as make a square block. Without effect beside
+    /// tracks.
     pub rows: Option<u32>,
     /// The highest metal on which nets are routed, 4 to 6; without effect beside tracks.
     pub metals: u32,
-    /// The seed of the random words; the placement doesn't depend on it yet.
+    /// The seed of the random words.
     pub seed: u32,
-    /// How often the placement is tried to be made better, at most 1,000,000 times; without effect yet.
+    /// How often the placement is tried to be made better, at most 1,000,000 times; without effect beside tracks.
     pub moves: u32,
     /// The most nodes that a diagram may have, 1 to 4,000,000.
     pub nodes: u32,
@@ -134,13 +135,6 @@ fn read_numbers(values: &Values) -> Result<Numbers, WordsError>
     })
 }
 
-// Without tracks the cells stand in one row.
-fn has_route(tracks: bool, rows: Option<u32>) -> bool
-    ensures { result ≡ has_route tracks rows }
-{
-    tracks || rows == Some(1)
-}
-
 // What `flow` is asked to do with a source and an encoding.
 fn flow_with(
     alloc: Global,
@@ -153,9 +147,6 @@ fn flow_with(
 {
     let tracks = is_set(values, TRACKS);
     let numbers = read_numbers(values)?;
-    if !has_route(tracks, numbers.rows) {
-        return Err(WordsError::Usage);
-    }
     Ok(FlowCommand {
         source,
         library: text(alloc, values, LIBRARY)?,
