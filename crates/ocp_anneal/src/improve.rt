@@ -30,5 +30,4 @@ pub fn improve(
     ensures improved { IfOk result (λ p. IsImprovedPlacement library.now netlist.now moves.seed moves.many placement.now p) }
     ensures even { IfOk result (λ p. IsEvenPlacement library.now netlist.now placement.now → IsEvenPlacement library.now netlist.now p) }
     ensures many { IfOk result (λ p. length p.rows ≡ length placement.now.rows) }
-{
-}
+{}

@@ -2,6 +2,9 @@
 #![tactic(auto)]
 
 mod cells;
+mod count;
 mod improve;
+mod place;
 
 pub use improve::{Moves, improve};
+pub use place::place;
