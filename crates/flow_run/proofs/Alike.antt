@@ -110,7 +110,7 @@ module _ (n : AbstractNetlist) (l : Library) (m o : Machine) (a : IsAlike m o) w
   -- and what is laid out for the one is so for the other
   pub route_alike : (route : Route) (f : Figure) (p : Placement) (buffers : ℕ) → IsLaidBy route f n l o p buffers → IsLaidBy route f n l m p buffers
   route_alike on_tracks f p buffers q = row_alike p buffers q
-  route_alike (over_rows rows metals) f p buffers q = record { order = order_alike buffers q.order; grid = q.grid }
+  route_alike (over_rows asked) f p buffers q = record { order = order_alike buffers q.order; grid = q.grid }
 
   -- few input pins read each class, since the same classes are left out
   pub inputs_alike : (limit : ℕ) → HasFewInputs n l o limit → HasFewInputs n l m limit

@@ -26,7 +26,7 @@ use Rattle.tool_drive.specs.Table.{IsJudged, IsFair, refusal}
 use Rattle.tool_drive.specs.Refusals.{MemoryOr, OfFile, of_file, memory_then, fair_then, judged as judged_by}
 use Rattle.flow_run.specs.Origin.{Origin, IsSourceFor, IsSourceRefusal}
 use Rattle.flow_run.specs.Flow.{IsSourceOf, AreRead, IsNoSource, no_list, no_text, over_size, IsUnread, no_source, no_cell, IsFlowRefusal, unread, uncovered, over_budget, IsWithinNodes, LaysOut}
-use Rattle.flow_run.specs.Route.{many_rows, route_of}
+use Rattle.flow_run.specs.Route.{rows_asked, route_of}
 use Rattle.flow_run.specs.Drawn.{IsDrawnAs, IsStuckAs}
 use Rattle.flow_run.specs.Mapped.{IsMissingIn}
 use Rattle.flow_run.proofs.Judging.{fair_list, fair_library}
@@ -113,16 +113,16 @@ by_budget c source list cells o m l s read covered h =
 -- a net that gets stuck is such an answer
 pub by_stuck : (c : FlowCommand) (source list : List ℕ) (cells : List (List ℕ)) (o : Origin) (m : Machine) (l : Library) (r : Refusal)
     → AreRead c source list cells o m l → Covers l m → IsWithinNodes m c.nodes
-    → IsFair r.status r.part ((c.tracks ≡ false) × IsStuckAs c.out o m l c.fanout (many_rows c.rows) c.metals r) → IsJudged (LaysOut c source list cells) (Err r)
+    → IsFair r.status r.part ((c.tracks ≡ false) × IsStuckAs c.out o m l c.fanout (rows_asked c) r) → IsJudged (LaysOut c source list cells) (Err r)
 by_stuck c source list cells o m l r read covered within h =
-    fair_then r.status r.part ((c.tracks ≡ false) × IsStuckAs c.out o m l c.fanout (many_rows c.rows) c.metals r) (LaysOut c source list cells (Err r))
+    fair_then r.status r.part ((c.tracks ≡ false) × IsStuckAs c.out o m l c.fanout (rows_asked c) r) (LaysOut c source list cells (Err r))
     (λ k. inr (record { no_tracks = k.0; o = o; m = m; l = l; read = read; covered = covered; within = within; shown = k.1 })) h
 
 -- and so is a layout
 pub judged_product : (c : FlowCommand) (source list : List ℕ) (cells : List (List ℕ)) (o : Origin) (m : Machine) (l : Library)
     → AreRead c source list cells o m l → Covers l m → IsWithinNodes m c.nodes → (r : Result Product Refusal)
     → IfOk r (λ p. IsDrawnAs c.out o m l c.fanout (route_of c) p)
-    → IfErr r (λ e. IsFair e.status e.part ((c.tracks ≡ false) × IsStuckAs c.out o m l c.fanout (many_rows c.rows) c.metals e))
+    → IfErr r (λ e. IsFair e.status e.part ((c.tracks ≡ false) × IsStuckAs c.out o m l c.fanout (rows_asked c) e))
     → IsJudged (LaysOut c source list cells) r
 judged_product c source list cells o m l read covered within (Ok p) drawn stuck =
     record { o = o; m = m; l = l; read = read; covered = covered; within = within; drawn = drawn }

@@ -22,7 +22,8 @@ use Rattle.ocp_rows.specs.Placement.{IsPlaced, net_count}
 use Rattle.row_meaning.specs.First.{AreEven}
 use Rattle.ocp_place.specs.Nets.{net_number}
 use Rattle.ocp_place.specs.Stood.{named_rows, instance_columns}
-use Rattle.ocp_place.specs.Placed.{InRow, IsRowPlacementOf, IsFirstPlacement, IsEvenPlacement, rows_of, stood_in}
+use Rattle.ocp_place.specs.Placed.{InRow, IsRowPlacementOf, rows_of, stood_in}
+use Rattle.ocp_anneal.specs.Rows.{IsWellPlaced}
 use Rattle.grid_core.specs.Routes.{NetRoutes}
 use Rattle.maze_drawing.specs.Wiring.{Wiring}
 use Rattle.maze_drawing.specs.Law.{IsRouted, maze_items, part_items, marks, RoutesKeepNets, MarkedRoutesKeepNets}
@@ -35,7 +36,7 @@ use Rattle.route_draw.specs.Law.{GridDrawingCanBeWritten, MarkedDrawingCanBeWrit
 use Rattle.flow_netlist.specs.Laws.{DrivenIsGood}
 use Rattle.flow_run.specs.Origin.{Origin}
 use Rattle.flow_run.specs.Report.{report_by}
-use Rattle.flow_run.specs.Route.{over_rows}
+use Rattle.flow_run.specs.Route.{InRows, over_rows}
 use Rattle.flow_run.specs.GridLayout.{IsFirstInRows}
 use Rattle.flow_run.specs.RightLayout.{IsRightLayout}
 use Rattle.flow_run.specs.StuckLayout.{IsStuckLayout}
@@ -46,15 +47,6 @@ use Rattle.flow_run.specs.declared.row_layout.NoRoutes.{NoRoutes}
 use Rattle.flow_run.specs.declared.row_layout.NoRoutes.TheVariants as none
 use Rattle.flow_run.specs.RowText.{IsRoutedText, IsStuckText, LacksRoutes, IsRefusedSo}
 use Rattle.flow_run.proofs.Drawing.{right_for, report_same}
-
--- the first placement, as it is seen
-first_in_rows : (l : Library) (n : Netlist) (rows : ℕ) (p : InRow) (k : Seen) → IsFirstPlacement l n rows p → IsEvenPlacement l n p → IsSeenAs n k
-    → IsFirstInRows k l (rows_of k p) rows
-first_in_rows l n rows p k first even seen = record {
-  no_tracks = refl;
-  first = ap (λ (r : List (List ℕ)). named_rows k.instances r) (first k seen);
-  even = subst (λ (r : List (List ℕ)). AreEven (instance_columns l k.instances) r) (first k seen) (even k seen);
-}
 
 -- the routes of a placement that is drawn
 routed : PlacementsAreInRows → (l : Library) (n : Netlist) (p : InRow) (k : Seen) (metals : ℕ) (routes : NetRoutes) (f : Figure) → IsRowPlacementOf l n p → IsSeenAs n k
@@ -78,10 +70,10 @@ routed rows l n p k metals routes f placed seen few trees drawn =
 
 pub row_layout : RightIsWellFormed → RightGridDrawingsAreRight → GridDrawingCanBeWritten → LinesAreReadAgain → AlikeRun → AlikeBothWays → DrivenIsGood
     → PlacementsAreInRows
-    → (l : Library) (o : Origin) (m : Machine) (fanout : ℕ) (n : Netlist) (delay : ℕ) (p : InRow) (rows metals : ℕ) (bytes : List ℕ) (long nodes : ℕ) (report : List ℕ)
-    → HasPassed false l → MayBeDrawn false l o m fanout n delay → IsRowPlacementOf l n p → IsFirstPlacement l n rows p → IsEvenPlacement l n p → metals ≤ 6
-    → IsRoutedText l n p metals bytes → IsLengthInRows l n p long → IsGreatestDcount m nodes
-    → report ≡ report_by o m nodes (length n.instances) (n.count - 2) delay long 0 → IsRightLayout bytes o m l fanout (over_rows rows metals) report
+    → (l : Library) (o : Origin) (m : Machine) (fanout : ℕ) (n : Netlist) (delay : ℕ) (p : InRow) (a : InRows) (bytes : List ℕ) (long nodes : ℕ) (report : List ℕ)
+    → HasPassed false l → MayBeDrawn false l o m fanout n delay → IsRowPlacementOf l n p → IsWellPlaced l n a.rows a.seed a.moves p → a.metals ≤ 6
+    → IsRoutedText l n p a.metals bytes → IsLengthInRows l n p long → IsGreatestDcount m nodes
+    → report ≡ report_by o m nodes (length n.instances) (n.count - 2) delay long 0 → IsRightLayout bytes o m l fanout (over_rows a) report
 row_layout well extracted written again runs back good in_rows l o m fanout n delay p rows metals bytes long nodes report passed h placed first even few t measured counted
     reported =
     let right = h.netlist.right in
@@ -91,7 +83,7 @@ row_layout well extracted written again runs back good in_rows l o m fanout n de
     let drawn = t.shown.drawn in
     let f = t.shown.figure in
     let ports = h.soon.ports in
-    let drawable : AreDrawable l n p t.routes = record { metals = metals; few = few; trees = t.routed.trees } in
+    let drawable : AreDrawable l n p t.routes = record { metals = a.metals; few = few; trees = t.routed.trees } in
     let fits = written l n p t.routes f placed drawable h.soon.named h.soon.short h.soon.few (omega (arith, ports)) drawn in
     record {
       figure = f;
@@ -113,8 +105,8 @@ row_layout well extracted written again runs back good in_rows l o m fanout n de
           routes = t.routes;
           wiring = drawn.wiring;
           over = record {
-            first = first_in_rows l n rows p k first even seen;
-            routed = routed in_rows l n p k metals t.routes f placed seen few t.routed.trees drawn;
+            good = good_rows k seen;
+            routed = routed in_rows l n p k a.metals t.routes f placed seen few t.routed.trees drawn;
           };
           ordered = t.routed.ordered k seen;
           lines = drawn.lines k seen;
@@ -132,10 +124,10 @@ row_layout well extracted written again runs back good in_rows l o m fanout n de
 
 pub stuck_layout : RightIsWellFormed → MarkedDrawingCanBeWritten → LinesAreReadAgain → AlikeRun → AlikeBothWays → DrivenIsGood → PlacementsAreInRows → RoutesKeepNets
     → MarkedRoutesKeepNets → MarksTellNets
-    → (l : Library) (o : Origin) (m : Machine) (fanout : ℕ) (n : Netlist) (delay : ℕ) (p : InRow) (rows metals net : ℕ) (terminal : Terminal) (bytes : List ℕ)
-    → HasPassed false l → MayBeDrawn false l o m fanout n delay → n.count ≤ 4294967296 → IsRowPlacementOf l n p → IsFirstPlacement l n rows p → IsEvenPlacement l n p
-    → metals ≤ 6 → IsStuckText l n p metals net terminal bytes → IsStuckLayout bytes o m l fanout rows metals net terminal
-stuck_layout well written again runs back good in_rows keeps marked_keeps tells l o m fanout n delay p rows metals net terminal bytes passed h counted placed first even few t =
+    → (l : Library) (o : Origin) (m : Machine) (fanout : ℕ) (n : Netlist) (delay : ℕ) (p : InRow) (a : InRows) (net : ℕ) (terminal : Terminal) (bytes : List ℕ)
+    → HasPassed false l → MayBeDrawn false l o m fanout n delay → n.count ≤ 4294967296 → IsRowPlacementOf l n p → IsWellPlaced l n a.rows a.seed a.moves p
+    → a.metals ≤ 6 → IsStuckText l n p a.metals net terminal bytes → IsStuckLayout bytes o m l fanout a net terminal
+stuck_layout well written again runs back good in_rows keeps marked_keeps tells l o m fanout n delay p a net terminal bytes passed h counted placed good_rows few t =
     let right = h.netlist.right in
     let k = right.sourced.netlist in
     let seen = right.seen in
@@ -148,14 +140,14 @@ stuck_layout well written again runs back good in_rows keeps marked_keeps tells 
     let marked = t.shown.marked in
     let w : Wiring = drawn.wiring in
     let ports = h.soon.ports in
-    let drawable : AreDrawable l n p t.routes = record { metals = metals; few = few; trees = t.trees } in
+    let drawable : AreDrawable l n p t.routes = record { metals = a.metals; few = few; trees = t.trees } in
     let fits = written l n p t.routes plain f placed drawable h.soon.named h.soon.short h.soon.few (omega (arith, ports)) drawn marked in
-    let over = routed in_rows l n p k metals t.routes plain placed seen few t.trees drawn in
+    let over = routed in_rows l n p k a.metals t.routes plain placed seen few t.trees drawn in
     let lines : f.items ≡ part_items k l (net_number k l) q instances w =
     marked.lines k seen ∙ ap (λ (items : List Item). items ++ marks k l (net_number k l) q instances) (drawn.lines k seen) in
     let same : net_count k ≡ n.count - 2 = ap (λ (x : Seen). net_count x) seen.is in
     let many : net_count k ≤ 18446744073709551616 = omega (arith, same, counted) in
-    let both = marked_keeps k l (net_number k l) q instances metals t.routes w over in
+    let both = marked_keeps k l (net_number k l) q instances a.metals t.routes w over in
     record {
       figure = f;
       netlist = k;
@@ -174,23 +166,23 @@ stuck_layout well written again runs back good in_rows keeps marked_keeps tells 
       instances = instances;
       routes = t.routes;
       wiring = w;
-      over = record { first = first_in_rows l n rows p k first even seen; routed = over };
+      over = record { good = good_rows k seen; routed = over };
       stuck = t.stuck k seen;
       lines = lines;
       is_placed = subst (λ (b : Rect). IsPlaced b (maze_items k l q instances w) k l q) (sym (marked.box ∙ drawn.box k seen))
-          (keeps k l (net_number k l) q instances metals t.routes w over).2;
+          (keeps k l (net_number k l) q instances a.metals t.routes w over).2;
       keeps = subst (λ (items : List Item). KeepsNetlist items l k) (sym lines) both.0;
       lawful = subst (λ (items : List Item). Breaches items l []) (sym lines) both.1;
     }
 
 -- the refusal of a placement without whole routes
-pub stuck_or_memory : (l : Library) (n : Netlist) (p : InRow) (metals : ℕ) (out : List ℕ) (o : Origin) (m : Machine) (fanout rows : ℕ) (lack : NoRoutes) (r : Refusal)
-    → ((net : ℕ) (terminal : Terminal) (bytes : List ℕ) → IsStuckText l n p metals net terminal bytes → IsStuckLayout bytes o m l fanout rows metals net terminal)
-    → LacksRoutes l n p metals lack → IsRefusedSo out lack r → IsFair r.status r.part (IsStuckAs out o m l fanout rows metals r)
-stuck_or_memory l n p metals out o m fanout rows none.Memory r shows lacks is =
-    subst (λ (x : Refusal). IsFair x.status x.part (IsStuckAs out o m l fanout rows metals x)) (sym is) refl
-stuck_or_memory l n p metals out o m fanout rows (none.NoPath net terminal bytes) r shows lacks (inl is) =
-    subst (λ (x : Refusal). IsFair x.status x.part (IsStuckAs out o m l fanout rows metals x)) (sym is) refl
-stuck_or_memory l n p metals out o m fanout rows (none.NoPath net terminal bytes) r shows lacks (inr is) =
-    subst (λ (x : Refusal). IsFair x.status x.part (IsStuckAs out o m l fanout rows metals x)) (sym is)
+pub stuck_or_memory : (l : Library) (n : Netlist) (p : InRow) (out : List ℕ) (o : Origin) (m : Machine) (fanout : ℕ) (a : InRows) (lack : NoRoutes) (r : Refusal)
+    → ((net : ℕ) (terminal : Terminal) (bytes : List ℕ) → IsStuckText l n p a.metals net terminal bytes → IsStuckLayout bytes o m l fanout a net terminal)
+    → LacksRoutes l n p a.metals lack → IsRefusedSo out lack r → IsFair r.status r.part (IsStuckAs out o m l fanout a r)
+stuck_or_memory l n p out o m fanout a none.Memory r shows lacks is =
+    subst (λ (x : Refusal). IsFair x.status x.part (IsStuckAs out o m l fanout a x)) (sym is) refl
+stuck_or_memory l n p out o m fanout a (none.NoPath net terminal bytes) r shows lacks (inl is) =
+    subst (λ (x : Refusal). IsFair x.status x.part (IsStuckAs out o m l fanout a x)) (sym is) refl
+stuck_or_memory l n p out o m fanout a (none.NoPath net terminal bytes) r shows lacks (inr is) =
+    subst (λ (x : Refusal). IsFair x.status x.part (IsStuckAs out o m l fanout a x)) (sym is)
     (record { net = net; terminal = terminal; status = refl; bytes = bytes; part = refl; right = shows net terminal bytes lacks })

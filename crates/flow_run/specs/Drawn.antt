@@ -19,7 +19,7 @@ use Rattle.tool_drive.specs.declared.tool.Refusal.{Refusal}
 use Rattle.tool_drive.specs.declared.status.Status.TheVariants as status
 use Rattle.syf_machine.specs.Meaning.{DoesAs}
 use Rattle.flow_run.specs.Origin.{Origin, equations, states}
-use Rattle.flow_run.specs.Route.{Route}
+use Rattle.flow_run.specs.Route.{InRows, Route}
 use Rattle.flow_run.specs.RightLayout.{IsRightLayout}
 use Rattle.flow_run.specs.StuckLayout.{IsStuckLayout}
 use Rattle.flow_netlist.specs.Netlist.{IsDrivenNetlist}
@@ -63,11 +63,11 @@ pub record IsDrawnAs (out : List ℕ) (o : Origin) (m : Machine) (l : Library) (
   pub file : p.file ≡ Some bytes
   pub right : IsRightLayout bytes o m l fanout route p.text
 
--- NAME_part.ap shows that a net of the machine's netlist got stuck in so many rows, on metals up to this one
-pub record IsStuckAs (out : List ℕ) (o : Origin) (m : Machine) (l : Library) (fanout rows metals : ℕ) (r : Refusal) : Type 0 where
+-- NAME_part.ap shows that a net of the machine's netlist got stuck in rows as they are asked for
+pub record IsStuckAs (out : List ℕ) (o : Origin) (m : Machine) (l : Library) (fanout : ℕ) (a : InRows) (r : Refusal) : Type 0 where
   pub net : ℕ
   pub terminal : Terminal
   pub status : r.status ≡ status.NoPath net terminal
   pub bytes : List ℕ
   pub part : r.part ≡ Some (record { name = part_name out; bytes = bytes })
-  pub right : IsStuckLayout bytes o m l fanout rows metals net terminal
+  pub right : IsStuckLayout bytes o m l fanout a net terminal

@@ -26,7 +26,7 @@ use Rattle.tool_drive.specs.declared.tool.Refusal.{Refusal}
 use Rattle.tool_drive.specs.Plan.{Plan, Inputs, limited}
 use Rattle.tool_drive.specs.Refusals.{OfFile}
 use Rattle.flow_run.specs.Origin.{Origin, IsSourceFor, IsSourceRefusal}
-use Rattle.flow_run.specs.Route.{many_rows, route_of}
+use Rattle.flow_run.specs.Route.{rows_asked, route_of}
 use Rattle.flow_run.specs.Drawn.{IsDrawnAs, IsStuckAs}
 
 -- SOURCE, then CATAL, and then the files of the cells that CATAL uses
@@ -91,7 +91,7 @@ pub record IsStuck (c : FlowCommand) (source catal : List ℕ) (cells : List (Li
   pub read : AreRead c source catal cells o m l
   pub covered : Covers l m
   pub within : IsWithinNodes m c.nodes
-  pub shown : IsStuckAs c.out o m l c.fanout (many_rows c.rows) c.metals r
+  pub shown : IsStuckAs c.out o m l c.fanout (rows_asked c) r
 
 -- the layout is written and the report is printed, or one of these refusals, or a net gets stuck
 abbrev pub LaysOut : FlowCommand → List ℕ → List ℕ → List (List ℕ) → Result Product Refusal → Type 0

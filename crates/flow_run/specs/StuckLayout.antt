@@ -24,14 +24,15 @@ use Rattle.flow_netlist.specs.Netlist.{IsDrivenAs}
 use Rattle.flow_run.specs.Origin.{Origin}
 use Rattle.flow_run.specs.States.{AgreesWith}
 use Rattle.flow_run.specs.Lean.{IsLeanBy}
+use Rattle.flow_run.specs.Route.{InRows}
 use Rattle.flow_run.specs.GridLayout.{IsOverRows}
 
 -- The bytes are the ap file of a figure that has the machine's name. By the marks at the points of its terminals, and by the names of its
 -- supplies' pins, it tells a netlist of the library's cells that is right for the machine as that of a right layout is. The netlist is
--- placed in so many rows, and its nets were routed by half perimeter, then by number, each by least paths beside those before it, up to
+-- placed in rows as it is asked for, and its nets were routed by half perimeter, then by number, each by least paths beside those before it, up to
 -- this net, from whose tree no free path leads to this terminal; the later nets have no wire. The lines are those of the placement and of
 -- these routes, and then the marks: no two classes are joined, and no symbolic rule is broken.
-pub record IsStuckLayout (bytes : List ℕ) (o : Origin) (m : Machine) (l : Library) (fanout rows metals net : ℕ) (terminal : Terminal) : Type 0 where
+pub record IsStuckLayout (bytes : List ℕ) (o : Origin) (m : Machine) (l : Library) (fanout : ℕ) (a : InRows) (net : ℕ) (terminal : Terminal) : Type 0 where
   pub figure : Figure
   pub netlist : AbstractNetlist
   pub placement : Placement
@@ -49,8 +50,8 @@ pub record IsStuckLayout (bytes : List ℕ) (o : Origin) (m : Machine) (l : Libr
   pub instances : List Instance
   pub routes : NetRoutes
   pub wiring : Wiring
-  pub over : IsOverRows netlist l placement rows metals instances routes wiring
-  pub stuck : IsStuckBefore netlist l (net_number netlist l) placement instances metals routes net terminal
+  pub over : IsOverRows netlist l placement a instances routes wiring
+  pub stuck : IsStuckBefore netlist l (net_number netlist l) placement instances a.metals routes net terminal
   pub lines : figure.items ≡ part_items netlist l (net_number netlist l) placement instances wiring
   pub is_placed : IsPlaced figure.bounds (maze_items netlist l placement instances wiring) netlist l placement
   pub keeps : KeepsNetlist figure.items l netlist

@@ -6,7 +6,7 @@ ghost use Rattle.ocp_place.specs.Drawable.{IsDrawableIn};
 ghost use Rattle.route_draw.specs.Drawn.{IsDrawnInTracks};
 ghost use Rattle.flow_run.specs.View.{origin_view};
 ghost use Rattle.flow_run.specs.Drawn.{layout_name as layout_name_of, MayBeDrawn, IsLengthOf, IsDrawnAs, IsStuckAs};
-ghost use Rattle.flow_run.specs.Route.{on_tracks, many_rows, route_of};
+ghost use Rattle.flow_run.specs.Route.{on_tracks, rows_asked, route_of};
 ghost use Rattle.flow_words.specs.Words.{IsWithinBounds};
 ghost use Rattle.tool_drive.specs.Table.{IsFair};
 
@@ -115,8 +115,7 @@ pub(crate) fn product(
     ensures drawn { IfOk result (λ p. IsDrawnAs command.now.out (origin_view counted.now.source.origin) counted.now.source.machine library.now
         counted.now.fanout (route_of command.now) p) }
     ensures stuck { IfErr result (λ r. IsFair r.status r.part ((command.now.tracks ≡ false) × IsStuckAs command.now.out
-        (origin_view counted.now.source.origin) counted.now.source.machine library.now counted.now.fanout (many_rows command.now.rows)
-        command.now.metals r)) }
+        (origin_view counted.now.source.origin) counted.now.source.machine library.now counted.now.fanout (rows_asked command.now) r)) }
 {
     if command.tracks {
         let product = track_product(alloc, &command.out, counted, driven, library)?;

@@ -10,7 +10,7 @@ ghost use Rattle.tool_drive.specs.Table.{IsFair};
 ghost use Rattle.flow_words.specs.Words.{IsWithinBounds};
 ghost use Rattle.route_draw.specs.Grid.{AreDrawable};
 ghost use Rattle.flow_run.specs.View.{origin_view};
-ghost use Rattle.flow_run.specs.Route.{many_rows, over_rows};
+ghost use Rattle.flow_run.specs.Route.{rows_asked, over_rows};
 ghost use Rattle.flow_run.specs.Drawn.{part_name as part_name_of, IsDrawnAs, IsStuckAs, MayBeDrawn};
 ghost use Rattle.flow_run.specs.RowText.{IsTextOf, IsMarkedText, IsRoutedText, LacksRoutes, IsRefusedSo};
 
@@ -29,8 +29,9 @@ use maze_drawing::{marked_routes_keep_nets, routes_keep_nets};
 use nero_nets::{RouteError, grids_are_small, marks_tell_nets, route_all};
 use net_core::Netlist;
 use net_right::right_is_well_formed;
+use ocp_anneal::{Moves, place};
 use ocp_grid::placements_are_in_rows;
-use ocp_place::{Placement, half_perimeter, right_may_be_drawn, row_place};
+use ocp_place::{Placement, half_perimeter, right_may_be_drawn};
 use route_draw::{
     draw, grid_drawing_can_be_written, mark, marked_drawing_can_be_written,
     right_grid_drawings_are_right,
@@ -130,19 +131,6 @@ fn row_text(
     }
 }
 
-// How many rows are asked for.
-fn rows_of(command: &FlowCommand) -> u32
-    requires { IsWithinBounds command.now }
-    ensures value { result ≡ many_rows command.now.rows }
-    ensures some { 1 ≤ result }
-    ensures few { result ≤ 256 }
-{
-    match command.rows {
-        Some(rows) => rows,
-        None => 1,
-    }
-}
-
 fn part_name(alloc: Global, out: &FileName) -> Result<FileName, AllocError>
     ensures { IfOk result (λ name. name ≡ part_name_of out.now) }
 {
@@ -186,9 +174,9 @@ pub(crate) fn row_product(
         driven.now.netlist driven.now.delay }
     requires nodes { IsGreatestDcount counted.now.source.machine counted.now.nodes }
     ensures drawn { IfOk result (λ p. IsDrawnAs command.now.out (origin_view counted.now.source.origin) counted.now.source.machine library.now
-        counted.now.fanout (over_rows (many_rows command.now.rows) command.now.metals) p) }
+        counted.now.fanout (over_rows (rows_asked command.now)) p) }
     ensures stuck { IfErr result (λ r. IsFair r.status r.part (IsStuckAs command.now.out (origin_view counted.now.source.origin)
-        counted.now.source.machine library.now counted.now.fanout (many_rows command.now.rows) command.now.metals r)) }
+        counted.now.source.machine library.now counted.now.fanout (rows_asked command.now) r)) }
 {
     driven_netlist_law();
     right_is_well_formed();
@@ -208,8 +196,11 @@ pub(crate) fn row_product(
     let _ = library.cells();
     // A netlist has no more classes than 32 bits number.
     let _ = driven.netlist.count();
-    let rows = rows_of(command);
-    let placement = row_place(alloc, &driven.netlist, library, rows)?;
+    let moves = Moves {
+        many: command.moves,
+        seed: command.seed,
+    };
+    let placement = place(alloc, &driven.netlist, library, command.rows, moves)?;
     let written = row_text(
         alloc,
         &driven.netlist,
