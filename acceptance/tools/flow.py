@@ -39,7 +39,7 @@ from acceptance.tools.boom import MOST_NODES, NODES, inner_size
 from acceptance.tools.syf import STYLES, behaviour_faults, codes_of, style_of
 
 ROW = ROWS / "flow-layouts/one-inverter.txt"
-USAGE = "usage: alliance flow SOURCE.vbe|.fsm -l DIR -o NAME [-e o|r|j] --tracks [--rows 1..256] [--metals 4..6] [--seed 0..4294967295] [--moves 0..1000000] [--nodes 1..4000000] [--fanout 4..1000000]\n"
+USAGE = "usage: alliance flow SOURCE.vbe|.fsm -l DIR -o NAME [-e o|r|j] [--tracks] [--rows 1..256] [--metals 4..6] [--seed 0..4294967295] [--moves 0..1000000] [--nodes 1..4000000] [--fanout 4..1000000]\n"
 FIVE = ["inv_x1", "na2_x1", "zero_x0", "one_x0", "sff1_x4"]
 MORE = ["inv_x8", "na3_x1", "sff1_x8", "xr2_x1", "mx2_x2", "buf_x2"]
 WORDS = ["flow", "s.vbe", "-l", "lib", "-o", "r", "--tracks"]
@@ -274,6 +274,12 @@ def written_faults(words, files, text, stuck=None):
 def writes(words, files):
     """The file that a command writes, with the check of its text."""
     return f"{parsed(words).out}.ap", lambda text: written_faults(words, files, text)
+
+
+def leaves(words, files, printed):
+    """The file that a command leaves where a net is stuck, as its line says, with the check of its text."""
+    stuck = stuck_in(printed)
+    return f"{parsed(words).out}_part.ap", lambda text: written_faults(words, files, text, stuck) if stuck else ["no net is named"]
 
 
 # ---- what is run

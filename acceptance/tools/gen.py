@@ -20,7 +20,7 @@ from acceptance.tools.boog import of_cells
 from acceptance.tools.flow import agrees
 
 OPTIONS = "[--rows 1..256] [--metals 4..6] [--seed 0..4294967295] [--moves 0..1000000] [--nodes 1..4000000] [--fanout 4..1000000]"
-USAGE = f"usage: alliance gen --size 8..4000 -l DIR -o NAME --tracks {OPTIONS}\n"
+USAGE = f"usage: alliance gen --size 8..4000 -l DIR -o NAME [--tracks] {OPTIONS}\n"
 BOUNDS = {
     "--size": (8, 4000), "--rows": (1, 256), "--metals": (4, 6), "--seed": (0, 2**32 - 1), "--moves": (0, 10**6), "--nodes": (1, 4 * 10**6),
     "--fanout": (4, 10**6),
@@ -145,6 +145,12 @@ def writes(words, files):
     """The layout that a command writes, with the check of its text."""
     found = parsed(words)
     return f"{found.out}.ap", lambda text: flow.written_faults(as_flow(found), {**files, **made(found)}, text)
+
+
+def leaves(words, files, printed):
+    """The file that a command leaves where a net is stuck, with the check of its text."""
+    found = parsed(words)
+    return flow.leaves(as_flow(found), {**files, **made(found)}, printed)
 
 
 # ---- the text that is written
