@@ -207,6 +207,8 @@ def check_layouts(results, program, seed, numbers, routing=("--tracks",)):
         if got[0] == 6 and flow.stuck_in(got[1]):
             flow.check_part(results, title, as_flow(found), {**files, **made(found)}, held.pop("r_part.ap", b""), got[1])
             results.note(f"{title}: the files", held == {**files, **made(found)}, f"{sorted(held)}")
+            blocked, line = {**files, "r_part.ap": None}, b"gen: file: write fault r_part.ap\n"
+            compare(results, f"{title} with a folder as r_part.ap", run_in(blocked, program, words), 7, line, {**blocked, **made(found)})
 
 
 def check_words(results, program):

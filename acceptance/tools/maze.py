@@ -1,7 +1,5 @@
 """Layouts that `flow` and `gen` route over a row, as a second router sees them: random sources and libraries, examples, sources that get
 stuck; with a line changed, by the four tools that check what came from elsewhere.
-
-Whether the program takes such words yet is asked of it once; where it doesn't, all this is skipped with a line.
 """
 
 import random
@@ -19,21 +17,12 @@ from acceptance.tools.boog import of_cells
 
 ROUTING = ["--rows", "1"]
 MACHINES, STATE_MACHINES, WIDE, DENSE, CIRCUITS, CHECKED = 60, 10, 8, 12, 10, 3
+SOME_STUCK = [*ROUTING, "--metals", "4"]
 
 
 def routed(words, metals=None):
     """Words of flow over one row."""
     return [*(word for word in words if word != "--tracks"), *ROUTING, *(["--metals", str(metals)] if metals else [])]
-
-
-def takes_rows(program):
-    case = Case(flow.ROW)
-    got = run_in(case.before, program, routed(case.words[0][:6]))
-    return got[0] != 1
-
-
-def skip(results):
-    results.skip("the program doesn't route over rows yet")
 
 
 def small_enough(choose):
@@ -84,11 +73,14 @@ def check_dense(results, program, seed, number):
 
 
 def check_any_stuck(results, program, seed):
-    """Of the dense sources some get stuck, so that what is said of these isn't empty."""
+    """Of the dense sources, and of circuits, some get stuck, so that what is said of these isn't empty."""
     files = of_cells([*flow.FIVE, "xr2_x1"])
     sources = (dense_source(random.Random(f"{seed} stuck {k}"), 120).encode() for k in range(3))
     got = [run_in({**files, "s.vbe": source}, program, routed(flow.WORDS, 4))[0] for source in sources]
     results.note("dense sources get stuck", 6 in got, got)
+    words = ["gen", "--size", "60", "-l", "lib", "-o", "r", *SOME_STUCK, "--seed"]
+    got = [run_in(files, program, [*words, str(seed + k)])[0] for k in range(6)]
+    results.note("circuits get stuck", 6 in got, got)
 
 
 def check_words(results, program):
@@ -136,9 +128,6 @@ def check_checked(results, program, seed, number):
 
 
 def jobs(program, seed, times):
-    if not takes_rows(program):
-        yield skip, ()
-        return
     for path in sorted([*EXAMPLES.glob("*/*.vbe"), *EXAMPLES.glob("*/*.fsm")]):
         yield check_example, (program, path)
     counts = {check_checked: CHECKED, check_dense: DENSE, check_wide: WIDE, check_machines: MACHINES, check_states: STATE_MACHINES}
@@ -147,6 +136,7 @@ def jobs(program, seed, times):
             yield check, (program, seed, number)
     for number in range(CIRCUITS * times):
         yield gen.check_layouts, (program, seed, [1000 + number], ROUTING)
+        yield gen.check_layouts, (program, seed, [2000 + number], SOME_STUCK)
     yield check_any_stuck, (program, seed)
     yield check_one_column, (program,)
     yield check_words, (program,)
