@@ -196,19 +196,26 @@ def check_layouts(results, program, seed, numbers, routing=("--tracks",)):
         more = choose.sample(["buf_x2", "inv_x2", "inv_x4", "inv_x8", "sff1_x8"], choose.randrange(5))
         files = with_drives(choose, [*flow.FIVE, *more]) if number % 2 else of_cells([*flow.FIVE, *more])
         words = ["gen", "--seed", str(choose.randrange(2**32)), "--size", str(size), "-l", "lib", "-o", "r", *routing, "--fanout", str(fanout)]
-        with Room() as room:
-            room.write(files)
-            got, wanted = room.run(program, words), second(words, files)
-            held = room.held()
-        title, found = f"a layout of {size} gates", parsed(words)
-        results.note(title, agrees(got, wanted), f"{words} came to {shown(*got)}, wanted {wanted}")
-        if got[0] == 0 and wanted[0] == 0:
-            flow.check_laid_out(results, title, as_flow(found), {**files, **made(found)}, held.get("r.ap", b""), got[1])
-        if got[0] == 6 and flow.stuck_in(got[1]):
-            flow.check_part(results, title, as_flow(found), {**files, **made(found)}, held.pop("r_part.ap", b""), got[1])
-            results.note(f"{title}: the files", held == {**files, **made(found)}, f"{sorted(held)}")
-            blocked, line = {**files, "r_part.ap": None}, b"gen: file: write fault r_part.ap\n"
-            compare(results, f"{title} with a folder as r_part.ap", run_in(blocked, program, words), 7, line, {**blocked, **made(found)})
+        check_layout(results, program, f"a layout of {size} gates", files, words)
+
+
+def check_layout(results, program, title, files, words):
+    """A circuit that is laid out as r.ap; where a net is stuck its source stays beside the partial layout, or alone where a folder stands in
+    the place of that."""
+    with Room() as room:
+        room.write(files)
+        got, wanted = room.run(program, words), second(words, files)
+        held = room.held()
+    found = parsed(words)
+    sources = {**files, **made(found)}
+    results.note(title, agrees(got, wanted), f"{words} came to {shown(*got)}, wanted {wanted}")
+    if got[0] == 0 and wanted[0] == 0:
+        flow.check_laid_out(results, title, as_flow(found), sources, held.get("r.ap", b""), got[1])
+    if got[0] == 6 and flow.stuck_in(got[1]):
+        flow.check_part(results, title, as_flow(found), sources, held.pop("r_part.ap", b""), got[1])
+        results.note(f"{title}: the files", held == sources, f"{sorted(held)}")
+        blocked, line = {**files, "r_part.ap": None}, b"gen: file: write fault r_part.ap\n"
+        compare(results, f"{title} with a folder as r_part.ap", run_in(blocked, program, words), 7, line, {**sources, "r_part.ap": None})
 
 
 def check_words(results, program):

@@ -12,12 +12,13 @@ from acceptance.makers.random_wide import WideMaker
 from acceptance.running.case_file import Case
 from acceptance.running.places import EXAMPLES
 from acceptance.running.results import Room, compare, run_in
-from acceptance.tools import checked_layouts, flow, gen
+from acceptance.tools import checked_layouts, flow, flow_limits, gen
 from acceptance.tools.boog import of_cells
 
 ROUTING = ["--rows", "1"]
 MACHINES, STATE_MACHINES, WIDE, DENSE, CIRCUITS, CHECKED = 60, 10, 8, 12, 10, 3
-SOME_STUCK = [*ROUTING, "--metals", "4"]
+# of circuits of this size on four metals some get stuck
+STUCK_SIZE, FEW_METALS = 60, [*ROUTING, "--metals", "4"]
 
 
 def routed(words, metals=None):
@@ -72,14 +73,22 @@ def check_dense(results, program, seed, number):
         results.note("r_part.ap over one that is there, beside r.ap", changed, sorted(after))
 
 
+def circuit_words(number):
+    return ["gen", "--seed", str(number), "--size", str(STUCK_SIZE), "-l", "lib", "-o", "r", *FEW_METALS]
+
+
+def check_circuit(results, program, seed, number):
+    """A circuit on four metals."""
+    gen.check_layout(results, program, "a circuit on four metals", of_cells([*flow.FIVE, "xr2_x1"]), circuit_words(seed + number))
+
+
 def check_any_stuck(results, program, seed):
     """Of the dense sources, and of circuits, some get stuck, so that what is said of these isn't empty."""
     files = of_cells([*flow.FIVE, "xr2_x1"])
     sources = (dense_source(random.Random(f"{seed} stuck {k}"), 120).encode() for k in range(3))
     got = [run_in({**files, "s.vbe": source}, program, routed(flow.WORDS, 4))[0] for source in sources]
     results.note("dense sources get stuck", 6 in got, got)
-    words = ["gen", "--size", "60", "-l", "lib", "-o", "r", *SOME_STUCK, "--seed"]
-    got = [run_in(files, program, [*words, str(seed + k)])[0] for k in range(6)]
+    got = [run_in(files, program, circuit_words(seed + k))[0] for k in range(6)]
     results.note("circuits get stuck", 6 in got, got)
 
 
@@ -111,6 +120,14 @@ def check_one_column(results, program):
         flow.run_laid_out(results, room, program, "pins in one column, over a row", files, routed(flow.WORDS))
 
 
+def check_sources(results, program):
+    """Sources of every sort, among them one without ports and one without cells."""
+    for title, text in flow_limits.SOURCES.items():
+        with Room() as room:
+            files = {**of_cells(flow.FIVE), "s.vbe": text}
+            flow.run_laid_out(results, room, program, f"{title}, over a row", files, routed(flow.WORDS))
+
+
 def check_example(results, program, path):
     with Room() as room:
         files = {**of_cells(flow.FIVE), f"s{path.suffix}": path.read_bytes()}
@@ -130,13 +147,16 @@ def check_checked(results, program, seed, number):
 def jobs(program, seed, times):
     for path in sorted([*EXAMPLES.glob("*/*.vbe"), *EXAMPLES.glob("*/*.fsm")]):
         yield check_example, (program, path)
-    counts = {check_checked: CHECKED, check_dense: DENSE, check_wide: WIDE, check_machines: MACHINES, check_states: STATE_MACHINES}
+    counts = {
+        check_checked: CHECKED, check_dense: DENSE, check_wide: WIDE, check_machines: MACHINES, check_states: STATE_MACHINES,
+        check_circuit: CIRCUITS,
+    }
     for check, count in counts.items():
         for number in range(count * times):
             yield check, (program, seed, number)
     for number in range(CIRCUITS * times):
         yield gen.check_layouts, (program, seed, [1000 + number], ROUTING)
-        yield gen.check_layouts, (program, seed, [2000 + number], SOME_STUCK)
     yield check_any_stuck, (program, seed)
     yield check_one_column, (program,)
+    yield check_sources, (program,)
     yield check_words, (program,)
