@@ -385,12 +385,16 @@ def check_chain(results, program, signals):
         run_laid_out(results, room, program, f"a chain of {signals}", {**of_cells(FIVE), "s.vbe": chain(signals)})
 
 
+def of_ports(bits):
+    """An inverter, and inputs that nothing reads, with so many port bits in all."""
+    head = f"entity wide is port (i : in bit_vector ({bits - 2} downto 0); o : out bit; vdd : in bit; vss : in bit); end wide;\n"
+    return f"{head}architecture vbe of wide is begin\no <= not i(0);\nend vbe;\n".encode()
+
+
 def check_ports(results, program, bits):
     """At the limit of port bits, and one past it."""
-    head = f"entity wide is port (i : in bit_vector ({bits - 2} downto 0); o : out bit; vdd : in bit; vss : in bit); end wide;\n"
-    source = f"{head}architecture vbe of wide is begin\no <= not i(0);\nend vbe;\n".encode()
     with Room() as room:
-        run_laid_out(results, room, program, f"{bits} port bits", {**of_cells(FIVE), "s.vbe": source})
+        run_laid_out(results, room, program, f"{bits} port bits", {**of_cells(FIVE), "s.vbe": of_ports(bits)})
 
 
 def check_examples(results, program):

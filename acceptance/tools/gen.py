@@ -14,6 +14,7 @@ from acceptance.readers import vbe_oracle
 from acceptance.readers.models import IN, OUT
 from acceptance.readers.vbe_oracle import Machine
 from acceptance.readers.vhdl_reader import Refused
+from acceptance.readers.words import is_option, option_of
 from acceptance.running.results import Room, compare, run_in, shown
 from acceptance.tools import flow
 from acceptance.tools.boog import of_cells
@@ -101,15 +102,19 @@ class Gen(NamedTuple):
 
 
 def parsed(words):
-    """The command, or None. Every option stands at most once, with its value behind it; without tracks there is so far one row alone."""
+    """The command, or None. Every option stands at most once, with its value; without tracks there is so far one row alone."""
     given, rest = {}, list(words[1:])
     while rest:
-        word = rest.pop(0)
-        if word in given or (word != "--tracks" and word not in ("-l", "-o", *BOUNDS)):
+        option, value = option_of(rest.pop(0))
+        if option in given or (option != "--tracks" and option not in ("-l", "-o", *BOUNDS)):
             return None
-        if word != "--tracks" and (not rest or rest[0].startswith("-")):
+        if option == "--tracks":
+            value = "" if value is None else None
+        elif value is None and rest and not is_option(rest[0]):
+            value = rest.pop(0)
+        if value is None:
             return None
-        given[word] = True if word == "--tracks" else rest.pop(0)
+        given[option] = value
     if any(word not in given for word in ("--size", "-l", "-o")):
         return None
     for word, (least, most) in BOUNDS.items():

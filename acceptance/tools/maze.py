@@ -9,6 +9,7 @@ from acceptance.makers.dense_sources import dense_source
 from acceptance.makers.random_sources import Maker
 from acceptance.makers.random_states import StateMaker
 from acceptance.makers.random_wide import WideMaker
+from acceptance.makers.tight_cells import tight_cells
 from acceptance.running.case_file import Case
 from acceptance.running.places import EXAMPLES
 from acceptance.running.results import Room, compare, run_in
@@ -16,7 +17,7 @@ from acceptance.tools import checked_layouts, flow, flow_limits, gen
 from acceptance.tools.boog import of_cells
 
 ROUTING = ["--rows", "1"]
-MACHINES, STATE_MACHINES, WIDE, DENSE, CIRCUITS, CHECKED = 60, 10, 8, 12, 10, 3
+MACHINES, STATE_MACHINES, WIDE, DENSE, CIRCUITS, CHECKED, TIGHT = 60, 10, 8, 12, 10, 3, 40
 # of circuits of this size on four metals some get stuck
 STUCK_SIZE, FEW_METALS = 60, [*ROUTING, "--metals", "4"]
 
@@ -45,6 +46,16 @@ def check_states(results, program, seed, number):
     with Room() as room:
         words = routed(flow.words_by(choose), choose.choice([4, 6]))
         flow.run_laid_out(results, room, program, "a random state machine over a row", files, words)
+
+
+def check_tight(results, program, seed, number):
+    """Cells whose pins stand close together, also above each other, so that wires have to go around them and some nets get stuck."""
+    choose = random.Random(f"{seed} maze tight {number}")
+    more = choose.sample(["xr2_x1", "buf_x2", "na3_x1", "inv_x2"], choose.randrange(3))
+    files = {**tight_cells(choose, [*flow.FIVE, *more]), "s.vbe": small_enough(choose)}
+    with Room() as room:
+        words = routed(flow.words_within(choose.choice([None, 4])), choose.choice([4, 4, 5, None]))
+        flow.run_laid_out(results, room, program, "a random source over tight cells", files, words)
 
 
 def check_wide(results, program, seed, number):
@@ -120,6 +131,13 @@ def check_one_column(results, program):
         flow.run_laid_out(results, room, program, "pins in one column, over a row", files, routed(flow.WORDS))
 
 
+def check_ports(results, program, bits):
+    """At the limit of port bits, all of which but two lead nowhere."""
+    with Room() as room:
+        files = {**of_cells(flow.FIVE), "s.vbe": flow.of_ports(bits)}
+        flow.run_laid_out(results, room, program, f"{bits} port bits over a row", files, routed(flow.WORDS))
+
+
 def check_sources(results, program):
     """Sources of every sort, among them one without ports and one without cells."""
     for title, text in flow_limits.SOURCES.items():
@@ -149,7 +167,7 @@ def jobs(program, seed, times):
         yield check_example, (program, path)
     counts = {
         check_checked: CHECKED, check_dense: DENSE, check_wide: WIDE, check_machines: MACHINES, check_states: STATE_MACHINES,
-        check_circuit: CIRCUITS,
+        check_circuit: CIRCUITS, check_tight: TIGHT,
     }
     for check, count in counts.items():
         for number in range(count * times):
@@ -159,4 +177,5 @@ def jobs(program, seed, times):
     yield check_any_stuck, (program, seed)
     yield check_one_column, (program,)
     yield check_sources, (program,)
+    yield check_ports, (program, 4096)
     yield check_words, (program,)
