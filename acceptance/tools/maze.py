@@ -1,5 +1,5 @@
 """Layouts that `flow` and `gen` route over a row, as a second router sees them: random sources and libraries, examples, sources that get
-stuck; with a line changed, by the four tools that check what came from elsewhere.
+stuck; with a line changed, by the four tools that check what came from elsewhere. The cases with tracks are run over a row too.
 """
 
 import random
@@ -10,9 +10,9 @@ from acceptance.makers.random_sources import Maker
 from acceptance.makers.random_states import StateMaker
 from acceptance.makers.random_wide import WideMaker
 from acceptance.makers.tight_cells import tight_cells
-from acceptance.running.case_file import Case
-from acceptance.running.places import EXAMPLES
-from acceptance.running.results import Room, compare, run_in
+from acceptance.running.case_file import Case, by_path
+from acceptance.running.places import EXAMPLES, ROWS
+from acceptance.running.results import Room, compare, run_in, shown
 from acceptance.tools import checked_layouts, flow, flow_limits, gen
 from acceptance.tools.boog import of_cells
 
@@ -118,6 +118,41 @@ def check_words(results, program):
     compare(results, "a folder that isn't there, over a row", got, 7, line, base)
 
 
+# with tracks its library is refused
+FOR_TRACKS = ROWS / "flow-libraries/pins-above-each-other.txt"
+
+
+def check_case(results, program, path):
+    """A case with tracks, over a row: a refusal is the same, and so is the report on a layout, but for its length."""
+    case = Case(path)
+    for words in case.words:
+        if words[0] != "flow" or "--tracks" not in words or any(word.startswith("--rows") for word in words):
+            continue
+        at = words.index("--tracks")
+        words = [*words[:at], *ROUTING, *words[at + 1 :]]
+        title, got = f"{case.title} over a row ({' '.join(words)[:80]})", run_in(case.before, program, words)
+        if case.status:
+            compare(results, title, got, case.status, case.printed, by_path(case.before))
+        else:
+            check_layout(results, title, case, words, got)
+
+
+def without_length(printed):
+    return [line for line in printed.split(b"\n") if not line.startswith(b"length ")]
+
+
+def check_layout(results, title, case, words, got):
+    status, printed, files = got
+    stuck = flow.stuck_in(printed) if status == 6 else None
+    results.note(title, stuck or (status == 0 and without_length(printed) == without_length(case.printed)), shown(status, printed))
+    name, faults_of = flow.leaves(words, case.before, printed) if stuck else flow.writes(words, case.before)
+    text = files.pop(name, b"")
+    before = {other: was for other, was in by_path(case.before).items() if other != name}
+    results.note(f"{title}: the files", files == before, sorted(files))
+    faults = faults_of(text)
+    results.note(f"{title}: the layout", not faults, f"{faults} in {text[:3000]!r}")
+
+
 def check_one_column(results, program):
     """A cell whose pins are reached in one column fails the tenth cause with tracks, and is well over a row."""
     files = of_cells(flow.FIVE)
@@ -175,6 +210,9 @@ def jobs(program, seed, times):
     for number in range(CIRCUITS * times):
         yield gen.check_layouts, (program, seed, [1000 + number], ROUTING)
     yield check_any_stuck, (program, seed)
+    for path in sorted(ROWS.glob("flow-*/*.txt")):
+        if path != FOR_TRACKS:
+            yield check_case, (program, path)
     yield check_one_column, (program,)
     yield check_sources, (program,)
     yield check_ports, (program, 4096)
