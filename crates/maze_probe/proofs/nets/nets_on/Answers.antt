@@ -1,0 +1,7 @@
+use Rattle.maze_probe.proofs.Building.{built_more}
+use Rattle.maze_probe.proofs.nets.nets_on.Goals as goal
+
+pub loop-at-preserved : goal.loop-at-preserved
+loop-at-preserved c =
+    rw c.in_ok-push.ensures.items (built_more c.args.columns c.args.pins c.args.places.now c.loop-at.at c.loop-at.nets.items c.in_ok-net_on.field-0 c.loop-at.invariant
+    c.in_ok-net_on.ensures.port c.in_ok-net_on.ensures.terminals)

@@ -1,0 +1,69 @@
+// Nets of random terminals.
+ghost use Rattle.std.specs.Prelude.{◌≡◌, ◌<◌, ◌*◌, ◌+◌, None, map, length, IfOk};
+ghost use Rattle.grid_core.specs.Numbers.{nodes};
+ghost use Rattle.maze_nets.specs.Nets.{AreRoutable};
+ghost use Rattle.maze_probe.specs.Spots.{terminal_at, AreNetsOn};
+
+use crate::places::places;
+use crate::trial::Trial;
+use grid_core::Node;
+use maze_nets::NetPoints;
+use std::alloc::{AllocError, Global};
+
+/// The node at a place of the lowest metal.
+fn terminal_at(columns: u32, place: u32) -> Node
+    requires { 0 < columns }
+    ensures { result ≡ terminal_at columns place }
+{
+    Node {
+        metal: 2,
+        column: place % columns,
+        row: place / columns,
+    }
+}
+
+/// A net with terminals at these places.
+fn net_on(alloc: Global, columns: u32, places: &[u32]) -> Result<NetPoints, AllocError>
+    requires { 0 < columns }
+    ensures port { IfOk result (λ net. net.port ≡ None) }
+    ensures terminals { IfOk result (λ net. net.terminals.items ≡ map (terminal_at columns) places.now) }
+{
+    let mut terminals = Vec::new(alloc);
+    for place in places {
+        terminals.push(terminal_at(columns, *place))?;
+    }
+    Ok(NetPoints {
+        port: None,
+        terminals,
+    })
+}
+
+/// So many nets with terminals at these places, each with as many as the others.
+fn nets_on(
+    alloc: Global,
+    columns: u32,
+    places: &[u32],
+    count: u32,
+    pins: u32,
+) -> Result<Vec<NetPoints>, AllocError>
+    requires columns { 0 < columns }
+    requires places { length places.now ≡ count * pins }
+    ensures many { IfOk result (λ nets. length nets.items ≡ count) }
+    ensures on { IfOk result (λ nets. AreNetsOn columns places.now nets.items) }
+{
+    let pins = pins as usize;
+    let mut nets = Vec::new(alloc);
+    for at in 0..count as usize {
+        nets.push(net_on(alloc, columns, &places[at * pins..at * pins + pins])?)?;
+    }
+    Ok(nets)
+}
+
+/// The nets of a trial: what is reserved for them is in the grid and for each alone. Takes memory for their points.
+pub fn nets(alloc: Global, trial: &Trial) -> Result<Vec<NetPoints>, AllocError>
+    ensures many { IfOk result (λ nets. length nets.items ≡ trial.now.nets) }
+    ensures routable { IfOk result (λ nets. AreRoutable trial.now.grid nets.items) }
+{
+    let places = places(alloc, trial.places(), trial.points(), trial.seed)?;
+    nets_on(alloc, trial.grid.columns, &places, trial.nets, trial.pins)
+}
