@@ -1,5 +1,5 @@
 -- Nets whose terminals stand at different places are such that they can be routed: what is reserved for each is for it alone.
-use Rattle.std.proofs.Common.{◌≡◌, ℕ, ◌+◌, ◌*◌, ◌/◌, ◌%◌, ◌<◌, ◌≤◌, ◌⊎◌, inl, inr, ⊎_elim, List, [], ◌∷◌, ◌++◌, map, Option, Some, None, All, refl, sym, ap, subst, ◌∙◌, arith}
+use Rattle.std.proofs.Common.{◌≡◌, ℕ, ◌+◌, ◌*◌, ◌/◌, ◌%◌, ◌<◌, ◌≤◌, ◌⊎◌, inl, inr, ⊎_elim, List, [], ◌∷◌, ◌++◌, Option, Some, None, All, refl, sym, ap, subst, ◌∙◌, arith}
 use Rattle.std.specs.Prelude.{flat_map, slice_get}
 use Rattle.std.proofs.Math.Nat.{mul_comm}
 use Rattle.std.proofs.lemmas.Nat.{div-add-mod', div_below, mod_below}
@@ -42,7 +42,7 @@ record Reserves (columns : ℕ) (places : List ℕ) (nets : List NetPoints) (k :
   stands : lowest p ≡ terminal_at columns place
   high : (p ≡ lowest p) ⊎ (p ≡ above (lowest p))
 
-module _ (g : Grid) (places : List ℕ) (nets : List NetPoints) (on : AreNetsOn g.columns places nets) where
+module _ (g : Grid) (pins : ℕ) (places : List ℕ) (nets : List NetPoints) (on : AreNetsOn g.columns pins places nets) where
   no_port : (k : ℕ) (net : NetPoints) → slice_get nets k ≡ Some net → port_node net.port ≡ []
   no_port k net e = ap port_node (all_get (λ (n : NetPoints). n.port ≡ None) nets k net on.portless e)
 

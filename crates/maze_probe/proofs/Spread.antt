@@ -1,5 +1,5 @@
 -- Places, each in its own share, stay different in any order.
-use Rattle.std.proofs.Common.{◌≡◌, ℕ, suc, ◌+◌, ◌*◌, ◌/◌, ◌%◌, ◌<◌, ◌≤◌, max, ◌⊎◌, inl, inr, List, [], ◌∷◌, ◌++◌, length, get_or, Bool, false, eqb, All, IsPermutation, refl, sym, ap, subst, ◌∙◌, arith}
+use Rattle.std.proofs.Common.{◌≡◌, ℕ, ◌+◌, ◌*◌, ◌/◌, ◌<◌, ◌≤◌, max, ◌⊎◌, inl, inr, List, [], ◌∷◌, ◌++◌, length, get_or, false, eqb, All, IsPermutation, refl, sym, ap, subst, ◌∙◌, arith}
 use Rattle.std.specs.List.{AllByRecursion, IsDistinct}
 use Rattle.std.proofs.Math.Nat.{mul_comm}
 use Rattle.std.proofs.lemmas.Bool.{cases_eq, cases_lt, eq-eqb, ne_eqb, false≢true}
@@ -74,11 +74,11 @@ shares_fit : (limit count : ℕ) → count * (limit / max count 1) ≤ limit
 shares_fit limit count = elim (cases_eq count 0) [
   | inl e ↦ subst (λ (n : ℕ). n * (limit / max n 1) ≤ limit) (sym e) (let z : 0 * (limit / max 0 1) ≡ 0 = grind arith in omega (arith, z))
   | inr ne ↦ (
-    let same : max count 1 ≡ count = omega (arith, ne) in
-    let turned : limit / max count 1 * max count 1 ≡ count * (limit / max count 1) = mul_comm (limit / max count 1) (max count 1) ∙ ap (λ (m : ℕ). m * (limit / max count 1)) same in
-    let whole = div-add-mod' limit (max count 1) in
-    omega (arith, turned, whole)
-  )
+      let same : max count 1 ≡ count = omega (arith, ne) in
+      let turned : limit / max count 1 * max count 1 ≡ count * (limit / max count 1) = mul_comm (limit / max count 1) (max count 1) ∙ ap (λ (m : ℕ). m * (limit / max count 1)) same in
+      let whole = div-add-mod' limit (max count 1) in
+      omega (arith, turned, whole)
+      )
 ]
 
 pub apart_from_spread : (limit count : ℕ) (places shuffled : List ℕ) → AreSpread (limit / max count 1) count places → IsPermutation places shuffled → AreApart limit count shuffled

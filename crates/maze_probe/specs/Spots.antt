@@ -20,7 +20,8 @@ pub record AreApart (limit count : ℕ) (places : List ℕ) : Type 0 where
 abbrev pub terminal_at : ℕ → ℕ → Node
 terminal_at columns place = record { metal = 2; column = place % columns; row = place / columns }
 
--- nets without ports, whose terminals one behind another stand at these places
-pub record AreNetsOn (columns : ℕ) (places : List ℕ) (nets : List NetPoints) : Type 0 where
+-- nets without ports, each of so many terminals, which one behind another stand at these places
+pub record AreNetsOn (columns pins : ℕ) (places : List ℕ) (nets : List NetPoints) : Type 0 where
   pub portless : All (λ net. net.port ≡ None) nets
+  pub sized : All (λ net. length net.terminals.items ≡ pins) nets
   pub terminals : flat_map (λ net. net.terminals.items) nets ≡ map (terminal_at columns) places

@@ -13,27 +13,29 @@ mod trial;
 
 use anyhow::{Result, bail};
 use std::env;
-use trial::Trial;
+use trial::{Kind, Trial};
 
 // The trial that the words ask for.
 fn asked(rt: &HostRuntime) -> Result<Option<Trial>> {
-    let mut kind = None;
+    let mut words = env::args(rt)?.skip(1);
+    let Some(kind) = words.next().and_then(|word| Kind::of(&word)) else {
+        return Ok(None);
+    };
     let mut numbers = Vec::new(rt.alloc());
-    for word in env::args(rt)?.skip(1) {
-        if kind.is_none() {
-            kind = trial::Kind::of(&word);
-        } else if let Ok(number) = word.parse::<u32>() {
-            numbers.push(number)?;
-        } else {
+    for word in words {
+        let Ok(number) = word.parse::<u32>() else {
             return Ok(None);
-        }
+        };
+        numbers.push(number)?;
     }
-    Ok(kind.and_then(|kind| Trial::of(kind, &numbers)))
+    Ok(Trial::of(kind, &numbers))
 }
 
 fn main(rt: HostRuntime) -> Result<()> {
     let Some(trial) = asked(&rt)? else {
-        bail!("usage: maze_probe pins METALS COLUMNS ROWS PINS SEED, or pairs METALS COLUMNS ROWS NETS SEED");
+        bail!(
+            "usage: maze_probe pins METALS COLUMNS ROWS PINS SEED, or pairs METALS COLUMNS ROWS NETS SEED"
+        );
     };
     answer::print(&rt, rt.alloc(), &trial)
 }

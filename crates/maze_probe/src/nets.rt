@@ -1,6 +1,6 @@
 // Nets of random terminals.
-ghost use Rattle.std.specs.Prelude.{◌≡◌, ◌<◌, ◌*◌, ◌+◌, None, map, length, IfOk};
-ghost use Rattle.grid_core.specs.Numbers.{nodes};
+ghost use Rattle.std.specs.Prelude.{◌≡◌, ◌<◌, ◌*◌, None, map, length, IfOk};
+ghost use Rattle.std.specs.List.{All};
 ghost use Rattle.maze_nets.specs.Nets.{AreRoutable};
 ghost use Rattle.maze_probe.specs.Spots.{terminal_at, AreNetsOn};
 
@@ -49,7 +49,7 @@ fn nets_on(
     requires columns { 0 < columns }
     requires places { length places.now ≡ count * pins }
     ensures many { IfOk result (λ nets. length nets.items ≡ count) }
-    ensures on { IfOk result (λ nets. AreNetsOn columns places.now nets.items) }
+    ensures on { IfOk result (λ nets. AreNetsOn columns pins places.now nets.items) }
 {
     let pins = pins as usize;
     let mut nets = Vec::new(alloc);
@@ -59,9 +59,11 @@ fn nets_on(
     Ok(nets)
 }
 
-/// The nets of a trial: what is reserved for them is in the grid and for each alone. Takes memory for their points.
+/// The nets of a trial, each with as many terminals as it says: what is reserved for a net is in the grid and for it alone. Takes
+/// memory for their points.
 pub fn nets(alloc: Global, trial: &Trial) -> Result<Vec<NetPoints>, AllocError>
     ensures many { IfOk result (λ nets. length nets.items ≡ trial.now.nets) }
+    ensures sized { IfOk result (λ nets. All (λ net. length net.terminals.items ≡ trial.now.pins) nets.items) }
     ensures routable { IfOk result (λ nets. AreRoutable trial.now.grid nets.items) }
 {
     let places = places(alloc, trial.places(), trial.points(), trial.seed)?;

@@ -1,5 +1,5 @@
 // What is routed.
-ghost use Rattle.std.specs.Prelude.{◌≡◌, ◌<◌, ◌≤◌, ◌+◌, ◌*◌};
+ghost use Rattle.std.specs.Prelude.{◌≡◌, ◌<◌, ◌≤◌, ◌*◌};
 ghost use Rattle.grid_core.specs.Numbers.{plane, nodes};
 
 use grid_core::Grid;
