@@ -10,19 +10,7 @@ use grid_core::Node;
 use maze_nets::NetPoints;
 use std::alloc::{AllocError, Global};
 
-/// The node at a place of the lowest metal.
-fn terminal_at(columns: u32, place: u32) -> Node
-    requires { 0 < columns }
-    ensures { result ≡ terminal_at columns place }
-{
-    Node {
-        metal: 2,
-        column: place % columns,
-        row: place / columns,
-    }
-}
-
-/// A net with terminals at these places.
+/// A net with terminals at these places of the lowest metal.
 fn net_on(alloc: Global, columns: u32, places: &[u32]) -> Result<NetPoints, AllocError>
     requires { 0 < columns }
     ensures port { IfOk result (λ net. net.port ≡ None) }
@@ -30,7 +18,11 @@ fn net_on(alloc: Global, columns: u32, places: &[u32]) -> Result<NetPoints, Allo
 {
     let mut terminals = Vec::new(alloc);
     for place in places {
-        terminals.push(terminal_at(columns, *place))?;
+        terminals.push(Node {
+            metal: 2,
+            column: *place % columns,
+            row: *place / columns,
+        })?;
     }
     Ok(NetPoints {
         port: None,
@@ -38,23 +30,17 @@ fn net_on(alloc: Global, columns: u32, places: &[u32]) -> Result<NetPoints, Allo
     })
 }
 
-/// So many nets with terminals at these places, each with as many as the others.
-fn nets_on(
-    alloc: Global,
-    columns: u32,
-    places: &[u32],
-    count: u32,
-    pins: u32,
-) -> Result<Vec<NetPoints>, AllocError>
-    requires columns { 0 < columns }
-    requires places { length places.now ≡ count * pins }
-    ensures many { IfOk result (λ nets. length nets.items ≡ count) }
-    ensures on { IfOk result (λ nets. AreNetsOn columns pins places.now nets.items) }
+/// The nets of a trial with terminals at these places, one net behind another.
+fn nets_on(alloc: Global, trial: &Trial, places: &[u32]) -> Result<Vec<NetPoints>, AllocError>
+    requires { length places.now ≡ trial.now.nets * trial.now.pins }
+    ensures many { IfOk result (λ nets. length nets.items ≡ trial.now.nets) }
+    ensures on { IfOk result (λ nets. AreNetsOn trial.now.grid.columns trial.now.pins places.now nets.items) }
 {
-    let pins = pins as usize;
+    let pins = trial.pins as usize;
     let mut nets = Vec::new(alloc);
-    for at in 0..count as usize {
-        nets.push(net_on(alloc, columns, &places[at * pins..at * pins + pins])?)?;
+    for at in 0..trial.nets as usize {
+        let own = &places[at * pins..at * pins + pins];
+        nets.push(net_on(alloc, trial.grid.columns, own)?)?;
     }
     Ok(nets)
 }
@@ -67,5 +53,5 @@ pub fn nets(alloc: Global, trial: &Trial) -> Result<Vec<NetPoints>, AllocError>
     ensures routable { IfOk result (λ nets. AreRoutable trial.now.grid nets.items) }
 {
     let places = places(alloc, trial.places(), trial.points(), trial.seed)?;
-    nets_on(alloc, trial.grid.columns, &places, trial.nets, trial.pins)
+    nets_on(alloc, trial, &places)
 }

@@ -9,19 +9,14 @@ use rand_pcg::Pcg32;
 use std::alloc::{AllocError, Global};
 
 /// So many places that rise: one at random in each of as many equal shares of those below a limit.
-fn spread(
-    alloc: Global,
-    limit: u32,
-    count: u32,
-    generator: &mut Pcg32,
-) -> Result<Vec<u32>, AllocError>
+fn spread(alloc: Global, limit: u32, count: u32, words: &mut Pcg32) -> Result<Vec<u32>, AllocError>
     requires { count ≤ limit }
     ensures { IfOk result (λ places. AreSpread (limit / max count 1) count places.items) }
 {
     let share = limit / count.max(1);
     let mut places = Vec::new(alloc);
     for at in 0..count {
-        places.push(at * share + generator.next_word() % share)?;
+        places.push(at * share + words.next_word() % share)?;
     }
     Ok(places)
 }
@@ -32,8 +27,8 @@ pub fn places(alloc: Global, limit: u32, count: u32, seed: u32) -> Result<Vec<u3
     requires { count ≤ limit }
     ensures { IfOk result (λ places. AreApart limit count places.items) }
 {
-    let mut generator = Pcg32::seed_from_u64(u64::from(seed));
-    let mut places = spread(alloc, limit, count, &mut generator)?;
-    places.shuffle(&mut generator);
+    let mut words = Pcg32::seed_from_u64(u64::from(seed));
+    let mut places = spread(alloc, limit, count, &mut words)?;
+    places.shuffle(&mut words);
     Ok(places)
 }

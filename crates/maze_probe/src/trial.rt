@@ -4,27 +4,6 @@ ghost use Rattle.grid_core.specs.Numbers.{plane, nodes};
 
 use grid_core::Grid;
 
-/// Grids have fewer nodes.
-const MOST_NODES: u64 = 4_294_967_295;
-
-/// Whether there is one net, or nets of two terminals.
-#[derive(Clone, Copy)]
-pub enum Kind {
-    Pins,
-    Pairs,
-}
-
-impl Kind {
-    /// The kind of this word.
-    pub fn of(word: &str) -> Option<Kind> {
-        match word {
-            "pins" => Some(Kind::Pins),
-            "pairs" => Some(Kind::Pairs),
-            _ => None,
-        }
-    }
-}
-
 /// A grid, and how many nets of how many terminals each are routed over it.
 #[derive(Clone, Copy, Drop)]
 pub struct Trial {
@@ -40,36 +19,33 @@ pub struct Trial {
 }
 
 impl Trial {
-    /// A trial by the numbers behind its kind, where they are such that the grid has room for it.
-    pub fn of(kind: Kind, numbers: &[u32]) -> Option<Trial> {
+    /// A trial by its kind and the numbers behind it, where they are such that the grid has room for it.
+    pub fn of(kind: &str, numbers: &[u32]) -> Option<Trial> {
         let &[metals, columns, rows, count, seed] = numbers else {
             return None;
         };
-        let metals = u8::try_from(metals).ok()?;
-        let grid = Grid {
-            metals,
-            columns,
-            rows,
+        let (nets, pins) = match kind {
+            "pins" => (1, count),
+            "pairs" => (count, 2),
+            _ => return None,
         };
-        match kind {
-            Kind::Pins => Trial::begin(grid, 1, count, seed),
-            Kind::Pairs => Trial::begin(grid, count, 2, seed),
-        }
-    }
-
-    fn begin(grid: Grid, nets: u32, pins: u32, seed: u32) -> Option<Trial> {
-        if grid.metals < 3 || grid.columns == 0 || pins == 0 {
+        let metals = u8::try_from(metals).ok()?;
+        if metals < 3 || columns == 0 || pins == 0 {
             return None;
         }
-        let plane = u64::from(grid.columns) * u64::from(grid.rows);
-        if plane >= MOST_NODES || plane * u64::from(grid.metals - 1) >= MOST_NODES {
+        let plane = u64::from(columns) * u64::from(rows);
+        if plane >= u64::from(u32::MAX) || plane * u64::from(metals - 1) >= u64::from(u32::MAX) {
             return None;
         }
         if u64::from(nets) * u64::from(pins) > plane {
             return None;
         }
         Some(Trial {
-            grid,
+            grid: Grid {
+                metals,
+                columns,
+                rows,
+            },
             nets,
             pins,
             seed,
