@@ -72,15 +72,9 @@ fi
 
 metals=${METALS:-6} rows=${ROWS:-1} fanout=${FANOUT:-32}
 
-<<<<<<< HEAD
-"$program" flow row1.vbe -l lib -o r --rows "$rows" --metals "$metals" >printed 2>&1 && probed=0 || probed=$?
-if [ "$probed" = 1 ]; then
-  echo "skipped: the program doesn't route over $rows rows on $metals metals"
-=======
 "$program" flow row1.vbe -l lib -o r --rows "$rows" --metals "$metals" >printed 2>&1 && status=0 || status=$?
 if [ "$status" = 1 ]; then
-  echo "skipped: the program doesn't route over rows yet"
->>>>>>> 751940351cdf9bc39a3e3ee2b66c25a52ebe3ac1
+  echo "skipped: the program doesn't route over $rows rows on $metals metals"
   exit 0
 fi
 qrouter=$(command -v qrouter || true)
