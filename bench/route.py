@@ -2,10 +2,14 @@
 """Measures a layout that is routed over rows, for route.sh.
 
 Usage: bench/route.py LAYOUT.ap LIBRARY [TRACKS.ap [METALS]]
+       bench/route.py --probe LINE SECONDS KILOBYTES BARE
 
 Prints on one line: nodes of the grid; nets that are routed, and all nets; the length of wires in steps of 500; vias but for those on pins;
 the area beside that of TRACKS.ap, as how many times that is as large, or -. In a layout without marks all nets are routed. Straps
 and rails don't count.
+
+With --probe LINE is one of maze_probe, and BARE the seconds that it takes over the same grid without nets, or -. Prints what the line
+says; seconds, megabytes, and bytes for a node; nodes a second where there is no net; paths a second beyond BARE where all are routed.
 """
 import pathlib
 import sys
@@ -43,7 +47,26 @@ def numbers(path, folder, tracks, metals):
     return nodes, routed, len(block.nets), steps, len(edges) - steps, saved
 
 
+def over(number, seconds):
+    return f"{number / seconds:.0f}" if seconds > 0 else "-"
+
+
+def probe_numbers(line, seconds, kilobytes, bare):
+    words = line.split()
+    if seconds == "-" or not words:
+        return ["-"] * 11
+    nodes, nets, points = map(int, words[1:6:2])
+    routed = "all" if words[6] == "routed" else ":".join(words[8:10])
+    figures = words[-3], words[-1], seconds, int(kilobytes) // 1024, f"{int(kilobytes) * 1024 / max(nodes, 1):.1f}"
+    nodes_a_second = "-" if nets else over(nodes, float(seconds))
+    paths_a_second = over(points - nets, float(seconds) - float(bare)) if nets and routed == "all" and bare != "-" else "-"
+    return nodes, nets, points, routed, *figures, nodes_a_second, paths_a_second
+
+
 def main():
+    if len(sys.argv) == 6 and sys.argv[1] == "--probe":
+        print(*probe_numbers(*sys.argv[2:]))
+        return
     if len(sys.argv) not in (3, 4, 5):
         sys.exit(__doc__)
     path, *more = map(pathlib.Path, sys.argv[1:4:2])

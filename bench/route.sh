@@ -1,25 +1,35 @@
 #!/usr/bin/env bash
 # Measures the routing over rows of `alliance flow` on the examples, on circuits as courses have them (multipliers to 8 bits, ALUs of 8 and
 # 16, encoders, decoders, filters, counters, state machines) and on generated circuits of 50 to 16,000 gates, over the row library cells/;
-# and beside it, on the same placement and pins, qrouter, where it is installed.
+# and beside it, on the same placement and pins, qrouter, where it is installed. Before that, where PROBE is given, the program maze_probe,
+# it measures the routing alone over empty grids of 5 and of 50 million nodes: no net, one net of 10,000 pins, nets of two pins.
 #
-# Usage: bench/route.sh PROGRAM [SECONDS]      (a run that takes longer than SECONDS, 300 at first, is cut off)
+# Usage: bench/route.sh PROGRAM [SECONDS [PROBE]]      (a run that takes longer than SECONDS, 300 at first, is cut off)
+#        bench/route.sh - SECONDS PROBE                the routing alone
 #
 # GATES in the environment is another list of numbers, METALS another number than 6, ROWS another than 1, FANOUT another than 32; an
-# empty COURSES leaves the circuits of courses out.
+# empty COURSES leaves the circuits of courses out. PROBES is another list of words for PROBE, a run a line.
 #
-# Columns: the source; seconds and megabytes of flow with tracks, which has all stages but this routing; seconds and megabytes over rows;
-# nodes of the grid; bytes of the difference in memory for a node; nets that are routed, of how many; length of the wires in steps; vias
-# but for those on pins; how many times larger the layout with tracks is; seconds, steps, vias and unrouted nets of qrouter. Where a net is
-# stuck the numbers are those of NAME_part.ap. Wires and nodes are counted by route.py, the second router's reading.
+# Columns of PROBE: its words; nodes of the grid, nets, and their points; whether all are routed, or the net and the point at which one is
+# stuck; steps and vias of all paths; seconds, megabytes, and bytes at the most for a node. Where there is no net, so that each node gets
+# its marks and nothing is searched, nodes a second; where there are some, paths a second beyond that time, if a run before shows it.
+#
+# Columns of PROGRAM: the source; seconds and megabytes of flow with tracks, which has all stages but this routing; seconds and megabytes
+# over rows; nodes of the grid; bytes of the difference in memory for a node; nets that are routed, of how many; length of the wires in
+# steps; vias but for those on pins; how many times larger the layout with tracks is; seconds, steps, vias and unrouted nets of qrouter.
+# Where a net is stuck the numbers are those of NAME_part.ap. Wires and nodes are counted by route.py, the second router's reading.
 set -eu
 
-if [ $# -lt 1 ] || [ ! -x "$1" ] || [ ! -x /usr/bin/time ]; then
-  echo "usage: $0 PROGRAM [SECONDS]      (it needs /usr/bin/time)" >&2
+program=${1:-}
+most=${2:-300}
+probe=${3:-}
+if [ ! -x /usr/bin/time ] || { [ "$program" != - ] && [ ! -x "$program" ]; } || { [ -n "$probe" ] && [ ! -x "$probe" ]; } \
+  || [ "$program$probe" = - ]; then
+  echo "usage: $0 PROGRAM [SECONDS [PROBE]]      (PROGRAM may be -, with PROBE; it needs /usr/bin/time)" >&2
   exit 2
 fi
-program=$(realpath "$1")
-most=${2:-300}
+[ "$program" = - ] || program=$(realpath "$program")
+[ -z "$probe" ] || probe=$(realpath "$probe")
 here=$(dirname "$(realpath "$0")")
 . "$here/measure.sh"
 work=$(mktemp -d)
@@ -27,11 +37,44 @@ trap 'rm -rf "$work"' EXIT
 cp -r "$here/../cells" "$work/lib"
 cp "$here"/../examples/*/*.vbe "$here"/../examples/*/*.fsm "$work"
 cd "$work"
+
+probe_row='%-34s %9s %6s %7s %-10s %9s %7s  %7s %5s %7s %10s %8s\n'
+bare_grid=- bare_took=-
+
+# probed KIND METALS COLUMNS ROWS NUMBER SEED: runs PROBE with these words and prints the row.
+probed() {
+  local took memory cells bare=- grid="$2 $3 $4"
+  read -r took memory < <(measured printed "$probe" "$@")
+  if [ "$5" = 0 ]; then
+    bare_grid=$grid bare_took=$took
+  elif [ "$grid" = "$bare_grid" ]; then
+    bare=$bare_took
+  fi
+  read -r -a cells < <(python3 "$here/route.py" --probe "$(cat printed)" "$took" "$memory" "$bare")
+  printf "$probe_row" "$*" "${cells[@]}"
+}
+
+if [ -n "$probe" ]; then
+  printf "$probe_row" '' '' '' '' '' '' '' '' '' bytes nodes paths
+  printf "$probe_row" words nodes nets points routed steps vias seconds MB a.node a.second a.second
+  while read -r kind wide; do
+    # shellcheck disable=SC2086
+    [ -z "$kind" ] || probed "$kind" $wide
+  done <<<"${PROBES-pairs 6 1000 1000 0 1
+pins 6 1000 1000 10000 1
+pairs 6 1000 1000 200 1
+pairs 6 3200 3125 0 1
+pins 6 3200 3125 10000 1
+pairs 6 3200 3125 20 1}"
+  [ "$program" != - ] || exit 0
+  echo
+fi
+
 metals=${METALS:-6} rows=${ROWS:-1} fanout=${FANOUT:-32}
 
-"$program" flow row1.vbe -l lib -o r --rows "$rows" --metals "$metals" >printed 2>&1 && probed=0 || probed=$?
-if [ "$probed" = 1 ]; then
-  echo "skipped: the program doesn't route over rows yet"
+"$program" flow row1.vbe -l lib -o r --rows "$rows" --metals "$metals" >printed 2>&1 && status=0 || status=$?
+if [ "$status" = 1 ]; then
+  echo "skipped: the program doesn't route over $rows rows on $metals metals"
   exit 0
 fi
 qrouter=$(command -v qrouter || true)

@@ -1,0 +1,4 @@
+mod Members
+mod Spread
+mod Routable
+mod Building
