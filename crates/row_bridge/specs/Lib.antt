@@ -1,0 +1,3 @@
+pub mod Improved
+pub mod Numbered
+pub mod Law
