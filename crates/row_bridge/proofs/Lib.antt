@@ -5,3 +5,5 @@ pub mod Ports
 pub mod Boxing
 pub mod Mapping
 pub mod Bridging
+pub mod Improved
+pub mod Blocks
