@@ -1,7 +1,6 @@
 -- A placement in memory can be improved by number.
-use Rattle.std.proofs.Common.{◌≡◌, ◌⊎◌, inl, inr, ℕ, zero, suc, ◌+◌, ◌*◌, ◌/◌, ◌^◌, ◌<◌, ◌≤◌, max, Bool, true, false, cond, nat_eq, All, Contains, List, [], ◌∷◌, ◌++◌, map, filter, length, get_or, slice_index, Option, None, Some, refl, sym, ap, subst, ◌∙◌, arith}
+use Rattle.std.proofs.Common.{◌≡◌, ◌⊎◌, inl, inr, ℕ, zero, suc, ◌+◌, ◌*◌, ◌/◌, ◌^◌, ◌<◌, ◌≤◌, Bool, true, false, cond, nat_eq, All, Contains, List, [], ◌∷◌, ◌++◌, filter, length, get_or, slice_index, Option, None, Some, refl, sym, ap, subst, ◌∙◌, arith}
 use Rattle.std.specs.Prelude.{pos, filter_map, IfSome, slice_index_or}
-use Rattle.std.specs.Int.{int_max}
 use Rattle.std.specs.List.{cons_option}
 use Rattle.std.specs.Option.{option_map}
 use Rattle.std.proofs.lemmas.Bool.{cases_lt}
@@ -10,7 +9,7 @@ use Rattle.std.proofs.lemmas.List.{length-map, length-append, get_or_default}
 use Rattle.std.proofs.lemmas.List.Elements.{All-nil, All-cons, All-map, All-contains}
 use Rattle.std.proofs.lemmas.List.Sums.{length-filter, count_by-le-length}
 use Rattle.vlsi_base.specs.declared.name.Name.{Name}
-use Rattle.sym_geom.specs.declared.grid.TheConstants.{FIRST_CELL_X, PITCH}
+use Rattle.sym_geom.specs.declared.grid.TheConstants.{PITCH}
 use Rattle.cell_model.specs.Access.{Point, count_to, access_point}
 use Rattle.cell_model.specs.Cell.{Cell, cell_width}
 use Rattle.cell_model.specs.Library.{Library, cell_of}
@@ -30,9 +29,7 @@ use Rattle.row_fill.proofs.Once.{at_most_once, inside}
 use Rattle.row_meaning.specs.declared.Pin.{Pin}
 use Rattle.row_meaning.specs.Rows.{row_at, row_width}
 use Rattle.row_meaning.specs.Rows as number
-use Rattle.row_meaning.specs.Length.{HaveSamePins}
 use Rattle.row_descent.specs.Spans.{limit}
-use Rattle.row_descent.specs.Tables as table
 use Rattle.row_descent.specs.Tables.{IsPinOf, IsBlock}
 use Rattle.row_bridge.specs.Improved.{above}
 use Rattle.row_bridge.specs.Numbered.{number_of, pin_at, cell_pin, own_pin, terminal_pin, net_pins, ports_width, numbered}

@@ -1,5 +1,5 @@
 -- The cells of a netlist's instances stand in rows, as wide as they are by number.
-use Rattle.std.proofs.Common.{◌≡◌, ℕ, zero, suc, ◌+◌, ◌*◌, ◌<◌, List, [], ◌∷◌, ◌++◌, map, length, get_or, slice_index, Option, Some, refl, sym, ap, subst, ◌∙◌, arith}
+use Rattle.std.proofs.Common.{◌≡◌, ℕ, zero, suc, ◌*◌, ◌<◌, List, [], ◌∷◌, ◌++◌, map, length, get_or, slice_index, Some, refl, sym, ap, subst, ◌∙◌, arith}
 use Rattle.std.specs.Prelude.{pos}
 use Rattle.std.proofs.lemmas.Int.{ints}
 use Rattle.std.proofs.lemmas.Option.{same_Some}
@@ -8,7 +8,7 @@ use Rattle.vlsi_base.specs.Member.{In}
 use Rattle.sym_geom.specs.declared.rect.Rect.{Rect}
 use Rattle.cell_model.specs.Cell.{Cell, cell_width, cell_height}
 use Rattle.cell_model.specs.Library.{Library, cell_of}
-use Rattle.cell_checks.specs.Checks.{HasColumns, StandsInRow}
+use Rattle.cell_checks.specs.Checks.{StandsInRow}
 use Rattle.net_meaning.specs.Netlist.{Member, AbstractNetlist}
 use Rattle.net_drawing.specs.Clean.{IsClean}
 use Rattle.ocp_rows.specs.Placement.{natural, model_width, width_of}

@@ -1,5 +1,5 @@
 -- What was improved by number is better by name.
-use Rattle.std.proofs.Common.{◌≡◌, ℕ, suc, ◌+◌, ◌*◌, ◌/◌, ◌≤◌, max, Bool, true, false, cond, nat_eq, List, [], ◌∷◌, ◌++◌, map, filter, length, flat_map, IsPermutation, refl, sym, ap, ap₂, ◌∙◌, arith}
+use Rattle.std.proofs.Common.{◌≡◌, ℕ, suc, ◌+◌, ◌*◌, ◌/◌, max, Bool, cond, nat_eq, List, [], ◌∷◌, ◌++◌, map, filter, length, flat_map, refl, sym, ap, ap₂, ◌∙◌, arith}
 use Rattle.std.specs.Prelude.{ℤ, pos, Option, None, Some, filter_map}
 use Rattle.std.specs.Int.{int_max}
 use Rattle.std.specs.Option.{option_map}

@@ -1,5 +1,5 @@
 -- The numbers of instances by their names.
-use Rattle.std.proofs.Common.{◌≡◌, ℕ, zero, suc, ◌+◌, ◌<◌, Bool, true, false, cond, List, [], ◌∷◌, length, Option, Some, None, refl, ◌∙◌, arith}
+use Rattle.std.proofs.Common.{◌≡◌, ℕ, suc, ◌+◌, ◌<◌, Bool, true, false, cond, List, [], ◌∷◌, length, Some, None, refl, arith}
 use Rattle.vlsi_base.specs.Member.{In, here, there}
 use Rattle.machine_core.specs.Named.{is_same_text}
 use Rattle.cell_model.proofs.Texts.{text_same}

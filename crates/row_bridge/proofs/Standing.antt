@@ -1,6 +1,6 @@
 -- The points of pins of instances in rows, by their numbers.
-use Rattle.std.proofs.Common.{◌≡◌, ◌≢◌, ℕ, zero, suc, ◌+◌, ◌<◌, Bool, true, false, List, [], ◌∷◌, ◌++◌, map, length, slice_index, get_or, Option, Some, None, refl, sym, ap, ap₂, subst, ◌∙◌, arith}
-use Rattle.std.specs.Prelude.{pos, slice_get, AllPairs, IsPermutation, Contains, flat_map}
+use Rattle.std.proofs.Common.{◌≡◌, ℕ, zero, suc, ◌+◌, ◌<◌, Bool, true, false, List, [], ◌∷◌, ◌++◌, map, length, slice_index, Some, None, refl, sym, ap, ap₂, subst, ◌∙◌, arith}
+use Rattle.std.specs.Prelude.{pos, slice_get, IsPermutation, Contains}
 use Rattle.std.proofs.lemmas.Bool.{cond-true, cond-false}
 use Rattle.std.proofs.lemmas.List.{length-map}
 use Rattle.std.proofs.lemmas.List.Sorted.{IsPermutation-sym, Contains-permutation}
@@ -26,7 +26,7 @@ use Rattle.ocp_place.proofs.Turned.{all_stand}
 use Rattle.row_bridge.specs.Law.{HoldEachOnce}
 use Rattle.row_bridge.specs.Numbered.{number_of}
 use Rattle.row_bridge.proofs.Cells.{width_at}
-use Rattle.row_bridge.proofs.Names.{IsNamed, number_none}
+use Rattle.row_bridge.proofs.Names.{number_none}
 
 -- ---- lists
 
