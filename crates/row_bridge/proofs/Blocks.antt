@@ -9,13 +9,13 @@ use Rattle.std.proofs.lemmas.List.{length-map, length-append, get_or_default}
 use Rattle.std.proofs.lemmas.List.Elements.{All-nil, All-cons, All-map, All-contains}
 use Rattle.std.proofs.lemmas.List.Sums.{length-filter, count_by-le-length}
 use Rattle.vlsi_base.specs.declared.name.Name.{Name}
-use Rattle.sym_geom.specs.declared.grid.TheConstants.{PITCH}
+use Rattle.sym_geom.specs.declared.grid.TheConstants.{FIRST_CELL_X, PITCH}
 use Rattle.cell_model.specs.Access.{Point, count_to, access_point}
 use Rattle.cell_model.specs.Cell.{Cell, cell_width}
 use Rattle.cell_model.specs.Library.{Library, cell_of}
 use Rattle.cell_checks.specs.Checked.{IsChecked as HasPassed}
 use Rattle.net_meaning.specs.Netlist.{Member, AbstractNetlist}
-use Rattle.ocp_rows.specs.Placement.{Placement, natural, width_of, model_width, rows_width, block_width, block_columns}
+use Rattle.ocp_rows.specs.Placement.{Placement, natural, width_of, model_width, rows_width}
 use Rattle.ocp_rows.specs.Length.{point_of, terminals, is_net}
 use Rattle.ocp_place.specs.Nets.{signal_ports}
 use Rattle.ocp_place.specs.Orderly.{IsOrderly}
@@ -128,15 +128,16 @@ module _ (n : AbstractNetlist) (l : Library) (ports : List Name) (rows : List (L
 
 -- ---- the rows
 
+-- how wide the cell of the ports is, as it is kept in memory
+pub ports_width_is : (n : AbstractNetlist) (l : Library) (p : InRow) → AreRowsOf n l p → ports_width l (rows_of n p) ≡ FIRST_CELL_X + PITCH * (p.width / PITCH + 1)
+ports_width_is n l p are = ap (λ (x : ℕ). FIRST_CELL_X + PITCH * (x / PITCH + 1)) (ap natural (sym are.width))
+
 module _ (n : AbstractNetlist) (l : Library) (passed : HasPassed false l) (ordered : IsOrderly n l) (p : InRow) (are : AreRowsOf n l p) (small : p.width ≤ 70000000000000) where
   abbrev all : List Member
   all = n.instances
 
   abbrev widths : List ℕ
   widths = instance_widths l all ++ ports_width l (rows_of n p) ∷ []
-
-  width_is : natural (block_width l (rows_of n p)) ≡ p.width
-  width_is = ap natural (sym are.width)
 
   -- the widest row is no wider than the block
   widest_low : number.rows_width widths p.rows ≤ p.width
@@ -147,9 +148,7 @@ module _ (n : AbstractNetlist) (l : Library) (passed : HasPassed false l) (order
       omega (arith, ints)
 
   ports_low : ports_width l (rows_of n p) ≤ limit
-  ports_low =
-      let columns : block_columns l (rows_of n p) ≡ p.width / 500 = ap (λ (x : ℕ). x / 500) width_is in
-      omega arith
+  ports_low = let e = ports_width_is n l p are in omega arith
 
   widths_low : All (λ x. x ≤ limit) widths
   widths_low k d low = by (cases_lt k (length all)) where

@@ -7,3 +7,4 @@ pub mod Mapping
 pub mod Bridging
 pub mod Improved
 pub mod Blocks
+pub mod Nets

@@ -1,10 +1,15 @@
 -- Rows of instances are as long as the rows of their numbers, so what was improved by number is improved by name.
-use Rattle.std.specs.Prelude.{◌≡◌, ◌≤◌, ◌<◌, ◌^◌, ℕ, List, length, flat_map, IsPermutation}
+use Rattle.std.specs.Prelude.{◌≡◌, ◌↔◌, ◌≤◌, ◌<◌, ◌^◌, ℕ, List, filter, length, map, flat_map, IsPermutation}
 use Rattle.vlsi_base.specs.declared.name.Name.{Name}
+use Rattle.vlsi_base.specs.Member.{In}
+use Rattle.cell_model.specs.Access.{count_to}
 use Rattle.cell_model.specs.Library.{Library}
 use Rattle.net_core.specs.Netlist.{Netlist as InMemory}
 use Rattle.net_meaning.specs.Netlist.{AbstractNetlist}
 use Rattle.net_right.specs.View.{IsSeenAs}
+use Rattle.net_drawing.specs.Shown.{IsSupplyClass}
+use Rattle.ocp_rows.specs.Placement.{Placement}
+use Rattle.ocp_rows.specs.Length.{is_net}
 use Rattle.row_meaning.specs.declared.Pin.{Pin}
 use Rattle.row_meaning.specs.First.{numbers}
 use Rattle.row_meaning.specs.Length.{Block, hp, HaveSamePins}
@@ -15,6 +20,7 @@ use Rattle.ocp_place.specs.Placed.{InRow, rows_of, IsRowPlacementOf}
 use Rattle.ocp_place.specs.Stood.{named_rows}
 use Rattle.row_bridge.specs.Improved.{above, long_in, IsBetter}
 use Rattle.row_bridge.specs.Numbered.{numbered}
+use Rattle.row_bridge.specs.Nets.{IsNetPin}
 
 -- each of the numbers below n stands in the rows once, and no other
 abbrev pub HoldEachOnce : ℕ → List (List ℕ) → Type 0
@@ -56,3 +62,11 @@ AlikeCanBeImproved =
 abbrev pub ImprovedHoldEachOnce : Type 0
 ImprovedHoldEachOnce =
     (b : Block) (n seed moves : ℕ) (old new : List (List ℕ)) → HoldEachOnce n old → IsImproved b seed moves old new → HoldEachOnce n new
+
+-- Lists that hold, for each class but those of the supplies, its ports and signal pins and no others, are the nets by number, whatever
+-- the order of their pins.
+abbrev pub NetsAreAlike : Type 0
+NetsAreAlike =
+    (n : AbstractNetlist) (l : Library) (p : Placement) (f : ℕ → List Pin) → IsOrderly n l
+    → ((class : ℕ) (q : Pin) → class < n.classes → (IsSupplyClass n class → ⊥) → In q (f class) ↔ IsNetPin n l p class q)
+    → HaveSamePins (map f (filter (is_net n) (count_to n.classes))) (numbered n l p).nets

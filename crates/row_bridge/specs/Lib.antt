@@ -1,3 +1,4 @@
 pub mod Improved
 pub mod Numbered
+pub mod Nets
 pub mod Law

@@ -1,5 +1,5 @@
 // What is true of rows of instances and of the rows of their numbers.
-ghost use Rattle.row_bridge.specs.Law.{AlikeCanBeImproved, ImprovedAbove, ImprovedHoldEachOnce, LengthsAgree, PlacedCanBeImproved};
+ghost use Rattle.row_bridge.specs.Law.{AlikeCanBeImproved, ImprovedAbove, ImprovedHoldEachOnce, LengthsAgree, NetsAreAlike, PlacedCanBeImproved};
 
 /// Rows of instances are as long as the rows of their numbers.
 pub fn lengths_agree()
@@ -24,4 +24,9 @@ pub fn alike_can_be_improved()
 /// Rows that were improved hold each instance once.
 pub fn improved_hold_each_once()
     ensures { ImprovedHoldEachOnce }
+{}
+
+/// Lists of the ports and signal pins of each class are its nets by number.
+pub fn nets_are_alike()
+    ensures { NetsAreAlike }
 {}

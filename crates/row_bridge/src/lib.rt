@@ -4,6 +4,6 @@
 mod law;
 
 pub use law::{
-    alike_can_be_improved, improved_above, improved_hold_each_once, lengths_agree,
+    alike_can_be_improved, improved_above, improved_hold_each_once, lengths_agree, nets_are_alike,
     placed_can_be_improved,
 };
