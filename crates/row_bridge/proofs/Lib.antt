@@ -1,0 +1,10 @@
+pub mod Cells
+pub mod Names
+pub mod Standing
+pub mod Ports
+pub mod Boxing
+pub mod Mapping
+pub mod Bridging
+pub mod Improved
+pub mod Blocks
+pub mod Nets

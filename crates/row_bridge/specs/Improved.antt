@@ -1,0 +1,26 @@
+-- Placements that no exchange of neighbours makes shorter.
+use Rattle.std.specs.Prelude.{◌≤◌, ℕ, false, List}
+use Rattle.vlsi_base.specs.declared.name.Name.{Name}
+use Rattle.cell_model.specs.Library.{Library}
+use Rattle.net_meaning.specs.Netlist.{Member, AbstractNetlist}
+use Rattle.row_meaning.specs.Length.{IsStable}
+use Rattle.row_meaning.specs.Tried.{tried}
+use Rattle.ocp_rows.specs.Placement.{Placement}
+use Rattle.ocp_rows.specs.Length.{half_perimeter}
+
+-- rows of instances, with ports above them
+abbrev pub above : List Name → List (List Member) → Placement
+above ports rows = record { rows = rows; ports = ports; tracks = false }
+
+-- how long their nets are
+abbrev pub long_in : AbstractNetlist → Library → List Name → List (List Member) → ℕ
+long_in n l ports rows = half_perimeter n l (above ports rows)
+
+-- no exchange of two neighbours in one row makes the nets shorter
+abbrev pub IsStablePlacement : AbstractNetlist → Library → Placement → Type 0
+IsStablePlacement n l p = IsStable (long_in n l p.ports) p.rows
+
+-- and they are no longer than after so many moves, by the words of this seed, from other rows
+pub record IsBetter (n : AbstractNetlist) (l : Library) (seed moves : ℕ) (old new : Placement) : Type 0 where
+  pub stable : IsStablePlacement n l new
+  pub lower : half_perimeter n l new ≤ long_in n l old.ports (tried (long_in n l old.ports) seed moves old.rows)

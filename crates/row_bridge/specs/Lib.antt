@@ -1,0 +1,4 @@
+pub mod Improved
+pub mod Numbered
+pub mod Nets
+pub mod Law
