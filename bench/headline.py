@@ -28,8 +28,8 @@ GHOST = re.compile(r"^ *ghost use ([\w.]+?)(?:\.\{(.*?)\}| as (\w+))?;", re.M | 
 TOKEN = re.compile(r'"[^"]*"|[^\s(){}\[\],;."]+(?:\.[^\s(){}\[\],;."]+)*')
 HEAD = """# The headline, with all that it rests on
 
-The first block has the clauses of the top call that are the theorem: what holds where `flow` ends with 0 (`headline`), and when it has to
-(`lays`). Below stands, crate by crate and the highest first, each definition on which they rest, with its comment; in a file what is used
+The first block has the clauses of the top call that are the theorem: what holds where `flow` ends with 0 (`headline`), and when it has to,
+or over rows names a net that is stuck (`lays`). Below stands, crate by crate and the highest first, each definition on which they rest, with its comment; in a file what is used
 stands before what uses it. Whoever agrees with these, and trusts what [what is tested](TESTED.md) lists under Trusted, need read no code
 and no proof: `rt ci` proves the clauses of them.
 

@@ -31,7 +31,7 @@ metals=${METALS:-6} rows=${ROWS:-1} fanout=${FANOUT:-32}
 
 "$program" flow row1.vbe -l lib -o r --rows "$rows" --metals "$metals" >printed 2>&1 && probed=0 || probed=$?
 if [ "$probed" = 1 ]; then
-  echo "skipped: the program doesn't route over rows yet"
+  echo "skipped: the program doesn't route over $rows rows on $metals metals"
   exit 0
 fi
 qrouter=$(command -v qrouter || true)

@@ -60,6 +60,10 @@ class Case:
         else:
             raise ValueError(f"{self.title}: {key} is no word of the head")
 
+    def is_begun_by(self, printed):
+        """Whether what is printed is open behind the text of the case, which then doesn't end with LF, and begins with it."""
+        return bool(self.printed) and not self.printed.endswith(b"\n") and bytes(printed).startswith(self.printed)
+
     def files_after(self, calls):
         """The files after the first of the calls, or after all."""
         if self.calls is None:

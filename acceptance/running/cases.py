@@ -7,31 +7,34 @@ from acceptance.running.results import compare, run_in
 from acceptance.tools.table import TOOLS
 
 FULL = "/dev/full"
-FILE = 7
+STUCK, FILE = 6, 7
 
 
 def check_case(results, program, path):
     case = Case(path)
     for words in case.words:
         title = f"{case.title} ({' '.join(words)[:80]})"
-        check_run(results, case, words, title, run_in(case.before, program, words), (case.status, case.printed))
+        got = run_in(case.before, program, words)
+        told = got[1] if case.is_begun_by(got[1]) else case.printed
+        check_run(results, case, words, title, got, (case.status, told), told)
         tool = TOOLS.get(words[0]) if words else None
         if tool:
             second = tool.second(words, case.before)
             if second is not None:
-                results.note(f"{title}: the second reader", tool.agrees((case.status, case.printed), second), f"it comes to {second}")
-        full_disk(results, program, case, words, title)
+                results.note(f"{title}: the second reader", tool.agrees((case.status, told), second), f"it comes to {second}")
+        full_disk(results, program, case, words, title, told)
         for number, (deed, file) in enumerate(case.calls or []):
             if deed == "read" and ("write", file) in case.calls[:number]:
                 continue  # what a run has written itself can't be in its way
             troubles(results, program, case, words, (number, deed, file))
 
 
-def check_run(results, case, words, title, got, wanted):
-    """A run whose calls all succeed. A file whose spelling is open, and whose text the case doesn't have, is read again."""
+def check_run(results, case, words, title, got, wanted, told):
+    """A run whose calls all succeed. A file whose spelling is open, and whose text the case doesn't have, is read again, beside what is
+    told where all can be printed."""
     status, printed, files = got
     kept = by_path(case.files_after(None))
-    open_file = open_file_of(case, words)
+    open_file = open_file_of(case, words, told)
     if open_file:
         name, faults_of = open_file
         text = files.pop(name, None)
@@ -41,15 +44,18 @@ def check_run(results, case, words, title, got, wanted):
     compare(results, title, (status, printed, files), *wanted, kept)
 
 
-def open_file_of(case, words):
+def open_file_of(case, words, told):
     tool = TOOLS.get(words[0]) if words else None
-    if case.status != 0 or tool is None or tool.writes is None:
+    if tool and case.status == 0 and tool.writes:
+        name, faults_of = tool.writes(words, case.before)
+    elif tool and case.status == STUCK and tool.leaves:
+        name, faults_of = tool.leaves(words, case.before, told)
+    else:
         return None
-    name, faults_of = tool.writes(words, case.before)
     return None if name in case.after else (os.path.normpath(name), faults_of)
 
 
-def full_disk(results, program, case, words, title):
+def full_disk(results, program, case, words, title, told):
     """Standard output takes nothing: a product that is lost is a failure of the output, a refusal keeps its status."""
     if not os.path.exists(FULL):
         results.skip(f"there is no {FULL}")
@@ -57,7 +63,7 @@ def full_disk(results, program, case, words, title):
     is_lost = case.status == 0 and case.printed
     with open(FULL, "wb") as full:
         got = run_in(case.before, program, words, full)
-    check_run(results, case, words, f"{title} on a full disk", got, (FILE if is_lost else case.status, b""))
+    check_run(results, case, words, f"{title} on a full disk", got, (FILE if is_lost else case.status, b""), told)
 
 
 def troubles(results, program, case, words, call):

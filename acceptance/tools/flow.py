@@ -39,7 +39,7 @@ from acceptance.tools.boom import MOST_NODES, NODES, inner_size
 from acceptance.tools.syf import STYLES, behaviour_faults, codes_of, style_of
 
 ROW = ROWS / "flow-layouts/one-inverter.txt"
-USAGE = "usage: alliance flow SOURCE.vbe|.fsm -l DIR -o NAME [-e o|r|j] --tracks [--rows 1..256] [--metals 4..6] [--seed 0..4294967295] [--moves 0..1000000] [--nodes 1..4000000] [--fanout 4..1000000]\n"
+USAGE = "usage: alliance flow SOURCE.vbe|.fsm -l DIR -o NAME [-e o|r|j] [--tracks] [--rows 1..256] [--metals 4..6] [--seed 0..4294967295] [--moves 0..1000000] [--nodes 1..4000000] [--fanout 4..1000000]\n"
 FIVE = ["inv_x1", "na2_x1", "zero_x0", "one_x0", "sff1_x4"]
 MORE = ["inv_x8", "na3_x1", "sff1_x8", "xr2_x1", "mx2_x2", "buf_x2"]
 WORDS = ["flow", "s.vbe", "-l", "lib", "-o", "r", "--tracks"]
@@ -276,6 +276,12 @@ def writes(words, files):
     return f"{parsed(words).out}.ap", lambda text: written_faults(words, files, text)
 
 
+def leaves(words, files, printed):
+    """The file that a command leaves where a net is stuck, as its line says, with the check of its text."""
+    stuck = stuck_in(printed)
+    return f"{parsed(words).out}_part.ap", lambda text: written_faults(words, files, text, stuck) if stuck else ["no net is named"]
+
+
 # ---- what is run
 
 
@@ -379,12 +385,16 @@ def check_chain(results, program, signals):
         run_laid_out(results, room, program, f"a chain of {signals}", {**of_cells(FIVE), "s.vbe": chain(signals)})
 
 
+def of_ports(bits):
+    """An inverter, and inputs that nothing reads, with so many port bits in all."""
+    head = f"entity wide is port (i : in bit_vector ({bits - 2} downto 0); o : out bit; vdd : in bit; vss : in bit); end wide;\n"
+    return f"{head}architecture vbe of wide is begin\no <= not i(0);\nend vbe;\n".encode()
+
+
 def check_ports(results, program, bits):
     """At the limit of port bits, and one past it."""
-    head = f"entity wide is port (i : in bit_vector ({bits - 2} downto 0); o : out bit; vdd : in bit; vss : in bit); end wide;\n"
-    source = f"{head}architecture vbe of wide is begin\no <= not i(0);\nend vbe;\n".encode()
     with Room() as room:
-        run_laid_out(results, room, program, f"{bits} port bits", {**of_cells(FIVE), "s.vbe": source})
+        run_laid_out(results, room, program, f"{bits} port bits", {**of_cells(FIVE), "s.vbe": of_ports(bits)})
 
 
 def check_examples(results, program):

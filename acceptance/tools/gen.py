@@ -14,13 +14,14 @@ from acceptance.readers import vbe_oracle
 from acceptance.readers.models import IN, OUT
 from acceptance.readers.vbe_oracle import Machine
 from acceptance.readers.vhdl_reader import Refused
+from acceptance.readers.words import is_option, option_of
 from acceptance.running.results import Room, compare, run_in, shown
 from acceptance.tools import flow
 from acceptance.tools.boog import of_cells
 from acceptance.tools.flow import agrees
 
 OPTIONS = "[--rows 1..256] [--metals 4..6] [--seed 0..4294967295] [--moves 0..1000000] [--nodes 1..4000000] [--fanout 4..1000000]"
-USAGE = f"usage: alliance gen --size 8..4000 -l DIR -o NAME --tracks {OPTIONS}\n"
+USAGE = f"usage: alliance gen --size 8..4000 -l DIR -o NAME [--tracks] {OPTIONS}\n"
 BOUNDS = {
     "--size": (8, 4000), "--rows": (1, 256), "--metals": (4, 6), "--seed": (0, 2**32 - 1), "--moves": (0, 10**6), "--nodes": (1, 4 * 10**6),
     "--fanout": (4, 10**6),
@@ -101,15 +102,19 @@ class Gen(NamedTuple):
 
 
 def parsed(words):
-    """The command, or None. Every option stands at most once, with its value behind it; without tracks there is so far one row alone."""
+    """The command, or None. Every option stands at most once, with its value; without tracks there is so far one row alone."""
     given, rest = {}, list(words[1:])
     while rest:
-        word = rest.pop(0)
-        if word in given or (word != "--tracks" and word not in ("-l", "-o", *BOUNDS)):
+        option, value = option_of(rest.pop(0))
+        if option in given or (option != "--tracks" and option not in ("-l", "-o", *BOUNDS)):
             return None
-        if word != "--tracks" and (not rest or rest[0].startswith("-")):
+        if option == "--tracks":
+            value = "" if value is None else None
+        elif value is None and rest and not is_option(rest[0]):
+            value = rest.pop(0)
+        if value is None:
             return None
-        given[word] = True if word == "--tracks" else rest.pop(0)
+        given[option] = value
     if any(word not in given for word in ("--size", "-l", "-o")):
         return None
     for word, (least, most) in BOUNDS.items():
@@ -145,6 +150,12 @@ def writes(words, files):
     """The layout that a command writes, with the check of its text."""
     found = parsed(words)
     return f"{found.out}.ap", lambda text: flow.written_faults(as_flow(found), {**files, **made(found)}, text)
+
+
+def leaves(words, files, printed):
+    """The file that a command leaves where a net is stuck, with the check of its text."""
+    found = parsed(words)
+    return flow.leaves(as_flow(found), {**files, **made(found)}, printed)
 
 
 # ---- the text that is written
@@ -190,17 +201,26 @@ def check_layouts(results, program, seed, numbers, routing=("--tracks",)):
         more = choose.sample(["buf_x2", "inv_x2", "inv_x4", "inv_x8", "sff1_x8"], choose.randrange(5))
         files = with_drives(choose, [*flow.FIVE, *more]) if number % 2 else of_cells([*flow.FIVE, *more])
         words = ["gen", "--seed", str(choose.randrange(2**32)), "--size", str(size), "-l", "lib", "-o", "r", *routing, "--fanout", str(fanout)]
-        with Room() as room:
-            room.write(files)
-            got, wanted = room.run(program, words), second(words, files)
-            held = room.held()
-        title, found = f"a layout of {size} gates", parsed(words)
-        results.note(title, agrees(got, wanted), f"{words} came to {shown(*got)}, wanted {wanted}")
-        if got[0] == 0 and wanted[0] == 0:
-            flow.check_laid_out(results, title, as_flow(found), {**files, **made(found)}, held.get("r.ap", b""), got[1])
-        if got[0] == 6 and flow.stuck_in(got[1]):
-            flow.check_part(results, title, as_flow(found), {**files, **made(found)}, held.pop("r_part.ap", b""), got[1])
-            results.note(f"{title}: the files", held == {**files, **made(found)}, f"{sorted(held)}")
+        check_layout(results, program, f"a layout of {size} gates", files, words)
+
+
+def check_layout(results, program, title, files, words):
+    """A circuit that is laid out as r.ap; where a net is stuck its source stays beside the partial layout, or alone where a folder stands in
+    the place of that."""
+    with Room() as room:
+        room.write(files)
+        got, wanted = room.run(program, words), second(words, files)
+        held = room.held()
+    found = parsed(words)
+    sources = {**files, **made(found)}
+    results.note(title, agrees(got, wanted), f"{words} came to {shown(*got)}, wanted {wanted}")
+    if got[0] == 0 and wanted[0] == 0:
+        flow.check_laid_out(results, title, as_flow(found), sources, held.get("r.ap", b""), got[1])
+    if got[0] == 6 and flow.stuck_in(got[1]):
+        flow.check_part(results, title, as_flow(found), sources, held.pop("r_part.ap", b""), got[1])
+        results.note(f"{title}: the files", held == sources, f"{sorted(held)}")
+        blocked, line = {**files, "r_part.ap": None}, b"gen: file: write fault r_part.ap\n"
+        compare(results, f"{title} with a folder as r_part.ap", run_in(blocked, program, words), 7, line, {**sources, "r_part.ap": None})
 
 
 def check_words(results, program):

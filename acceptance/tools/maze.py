@@ -1,7 +1,5 @@
 """Layouts that `flow` and `gen` route over a row, as a second router sees them: random sources and libraries, examples, sources that get
-stuck; with a line changed, by the four tools that check what came from elsewhere.
-
-Whether the program takes such words yet is asked of it once; where it doesn't, all this is skipped with a line.
+stuck; with a line changed, by the four tools that check what came from elsewhere. The cases with tracks are run over a row too.
 """
 
 import random
@@ -11,29 +9,22 @@ from acceptance.makers.dense_sources import dense_source
 from acceptance.makers.random_sources import Maker
 from acceptance.makers.random_states import StateMaker
 from acceptance.makers.random_wide import WideMaker
-from acceptance.running.case_file import Case
-from acceptance.running.places import EXAMPLES
-from acceptance.running.results import Room, compare, run_in
-from acceptance.tools import checked_layouts, flow, gen
+from acceptance.makers.tight_cells import tight_cells
+from acceptance.running.case_file import Case, by_path
+from acceptance.running.places import EXAMPLES, ROWS
+from acceptance.running.results import Room, compare, run_in, shown
+from acceptance.tools import checked_layouts, flow, flow_limits, gen
 from acceptance.tools.boog import of_cells
 
 ROUTING = ["--rows", "1"]
-MACHINES, STATE_MACHINES, WIDE, DENSE, CIRCUITS, CHECKED = 60, 10, 8, 12, 10, 3
+MACHINES, STATE_MACHINES, WIDE, DENSE, CIRCUITS, CHECKED, TIGHT = 60, 10, 8, 12, 10, 3, 40
+# of circuits of this size on four metals some get stuck
+STUCK_SIZE, FEW_METALS = 60, [*ROUTING, "--metals", "4"]
 
 
 def routed(words, metals=None):
     """Words of flow over one row."""
     return [*(word for word in words if word != "--tracks"), *ROUTING, *(["--metals", str(metals)] if metals else [])]
-
-
-def takes_rows(program):
-    case = Case(flow.ROW)
-    got = run_in(case.before, program, routed(case.words[0][:6]))
-    return got[0] != 1
-
-
-def skip(results):
-    results.skip("the program doesn't route over rows yet")
 
 
 def small_enough(choose):
@@ -55,6 +46,16 @@ def check_states(results, program, seed, number):
     with Room() as room:
         words = routed(flow.words_by(choose), choose.choice([4, 6]))
         flow.run_laid_out(results, room, program, "a random state machine over a row", files, words)
+
+
+def check_tight(results, program, seed, number):
+    """Cells whose pins stand close together, also above each other, so that wires have to go around them and some nets get stuck."""
+    choose = random.Random(f"{seed} maze tight {number}")
+    more = choose.sample(["xr2_x1", "buf_x2", "na3_x1", "inv_x2"], choose.randrange(3))
+    files = {**tight_cells(choose, [*flow.FIVE, *more]), "s.vbe": small_enough(choose)}
+    with Room() as room:
+        words = routed(flow.words_within(choose.choice([None, 4])), choose.choice([4, 4, 5, None]))
+        flow.run_laid_out(results, room, program, "a random source over tight cells", files, words)
 
 
 def check_wide(results, program, seed, number):
@@ -83,12 +84,23 @@ def check_dense(results, program, seed, number):
         results.note("r_part.ap over one that is there, beside r.ap", changed, sorted(after))
 
 
+def circuit_words(number):
+    return ["gen", "--seed", str(number), "--size", str(STUCK_SIZE), "-l", "lib", "-o", "r", *FEW_METALS]
+
+
+def check_circuit(results, program, seed, number):
+    """A circuit on four metals."""
+    gen.check_layout(results, program, "a circuit on four metals", of_cells([*flow.FIVE, "xr2_x1"]), circuit_words(seed + number))
+
+
 def check_any_stuck(results, program, seed):
-    """Of the dense sources some get stuck, so that what is said of these isn't empty."""
+    """Of the dense sources, and of circuits, some get stuck, so that what is said of these isn't empty."""
     files = of_cells([*flow.FIVE, "xr2_x1"])
     sources = (dense_source(random.Random(f"{seed} stuck {k}"), 120).encode() for k in range(3))
     got = [run_in({**files, "s.vbe": source}, program, routed(flow.WORDS, 4))[0] for source in sources]
     results.note("dense sources get stuck", 6 in got, got)
+    got = [run_in(files, program, circuit_words(seed + k))[0] for k in range(6)]
+    results.note("circuits get stuck", 6 in got, got)
 
 
 def check_words(results, program):
@@ -106,6 +118,41 @@ def check_words(results, program):
     compare(results, "a folder that isn't there, over a row", got, 7, line, base)
 
 
+# with tracks its library is refused
+FOR_TRACKS = ROWS / "flow-libraries/pins-above-each-other.txt"
+
+
+def check_case(results, program, path):
+    """A case with tracks, over a row: a refusal is the same, and so is the report on a layout, but for its length."""
+    case = Case(path)
+    for words in case.words:
+        if words[0] != "flow" or "--tracks" not in words or any(word.startswith("--rows") for word in words):
+            continue
+        at = words.index("--tracks")
+        words = [*words[:at], *ROUTING, *words[at + 1 :]]
+        title, got = f"{case.title} over a row ({' '.join(words)[:80]})", run_in(case.before, program, words)
+        if case.status:
+            compare(results, title, got, case.status, case.printed, by_path(case.before))
+        else:
+            check_layout(results, title, case, words, got)
+
+
+def without_length(printed):
+    return [line for line in printed.split(b"\n") if not line.startswith(b"length ")]
+
+
+def check_layout(results, title, case, words, got):
+    status, printed, files = got
+    stuck = flow.stuck_in(printed) if status == 6 else None
+    results.note(title, stuck or (status == 0 and without_length(printed) == without_length(case.printed)), shown(status, printed))
+    name, faults_of = flow.leaves(words, case.before, printed) if stuck else flow.writes(words, case.before)
+    text = files.pop(name, b"")
+    before = {other: was for other, was in by_path(case.before).items() if other != name}
+    results.note(f"{title}: the files", files == before, sorted(files))
+    faults = faults_of(text)
+    results.note(f"{title}: the layout", not faults, f"{faults} in {text[:3000]!r}")
+
+
 def check_one_column(results, program):
     """A cell whose pins are reached in one column fails the tenth cause with tracks, and is well over a row."""
     files = of_cells(flow.FIVE)
@@ -117,6 +164,21 @@ def check_one_column(results, program):
         flow.run_laid_out(results, room, program, "pins in one column, with tracks", files)
     with Room() as room:
         flow.run_laid_out(results, room, program, "pins in one column, over a row", files, routed(flow.WORDS))
+
+
+def check_ports(results, program, bits):
+    """At the limit of port bits, all of which but two lead nowhere."""
+    with Room() as room:
+        files = {**of_cells(flow.FIVE), "s.vbe": flow.of_ports(bits)}
+        flow.run_laid_out(results, room, program, f"{bits} port bits over a row", files, routed(flow.WORDS))
+
+
+def check_sources(results, program):
+    """Sources of every sort, among them one without ports and one without cells."""
+    for title, text in flow_limits.SOURCES.items():
+        with Room() as room:
+            files = {**of_cells(flow.FIVE), "s.vbe": text}
+            flow.run_laid_out(results, room, program, f"{title}, over a row", files, routed(flow.WORDS))
 
 
 def check_example(results, program, path):
@@ -136,17 +198,22 @@ def check_checked(results, program, seed, number):
 
 
 def jobs(program, seed, times):
-    if not takes_rows(program):
-        yield skip, ()
-        return
     for path in sorted([*EXAMPLES.glob("*/*.vbe"), *EXAMPLES.glob("*/*.fsm")]):
         yield check_example, (program, path)
-    counts = {check_checked: CHECKED, check_dense: DENSE, check_wide: WIDE, check_machines: MACHINES, check_states: STATE_MACHINES}
+    counts = {
+        check_checked: CHECKED, check_dense: DENSE, check_wide: WIDE, check_machines: MACHINES, check_states: STATE_MACHINES,
+        check_circuit: CIRCUITS, check_tight: TIGHT,
+    }
     for check, count in counts.items():
         for number in range(count * times):
             yield check, (program, seed, number)
     for number in range(CIRCUITS * times):
         yield gen.check_layouts, (program, seed, [1000 + number], ROUTING)
     yield check_any_stuck, (program, seed)
+    for path in sorted(ROWS.glob("flow-*/*.txt")):
+        if path != FOR_TRACKS:
+            yield check_case, (program, path)
     yield check_one_column, (program,)
+    yield check_sources, (program,)
+    yield check_ports, (program, 4096)
     yield check_words, (program,)

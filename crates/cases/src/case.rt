@@ -3,7 +3,7 @@
 // The head has a line `words: WORDS` for each run, `status: N`, and if it says so the calls that the run makes on the shelf, as
 // `calls: read row1.vbe, write out.ap` or `calls: none`; a line that # begins is a comment. Behind it stand the files before, each
 // below `-- NAME --`, what is printed below `-- stdout --`, and the files that are written below `-- after: NAME --`. In a line
-// `<<N TEXT>>` is TEXT so many times, and a last line that `<<open>>` ends has no LF.
+// `<<N TEXT>>` is TEXT so many times, and a last line that `<<open>>` ends has no LF. What is printed may go on behind a text that has none.
 
 use crate::archive::{Place, Section, append_expanded, append_line, begun};
 use anyhow::{Context, Result, bail, ensure};

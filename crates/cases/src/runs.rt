@@ -178,6 +178,15 @@ fn differing_file<'a>(
     Ok(None)
 }
 
+// Whether this is the text that is wanted; what stands behind one that doesn't end with LF is open.
+fn is_wanted(printed: &str, wanted: &str) -> bool {
+    if wanted.is_empty() || wanted.ends_with('\n') {
+        printed == wanted
+    } else {
+        printed.strip_prefix(wanted).is_some()
+    }
+}
+
 // How an outcome differs from what the case says, if it does.
 fn difference(alloc: Global, run: &Run, outcome: &Outcome) -> Result<Option<String>, AllocError> {
     let status = outcome.status;
@@ -189,7 +198,7 @@ fn difference(alloc: Global, run: &Run, outcome: &Outcome) -> Result<Option<Stri
         )?));
     }
     let wanted = run.wanted_text(alloc)?;
-    if outcome.printed != wanted.as_bytes() {
+    if !is_wanted(printed, wanted.as_str()) {
         return Ok(Some(format!(in alloc; "printed {printed:?}, wanted {wanted:?}")?));
     }
     match differing_file(alloc, run, outcome.files)? {
