@@ -9,7 +9,7 @@ use Rattle.ocp_rows.specs.Placement.{Placement}
 use Rattle.ocp_place.specs.Placed.{InRow, rows_of}
 use Rattle.ocp_place.specs.Nets.{signal_ports}
 use Rattle.ocp_place.specs.Stood.{named_rows, instance_columns}
-use Rattle.ocp_anneal.specs.Improved.{IsBetter}
+use Rattle.row_bridge.specs.Improved.{IsBetter}
 
 -- the most rows
 abbrev pub most_rows : ℕ
