@@ -1,5 +1,5 @@
 -- Placements that no exchange of neighbours makes shorter.
-use Rattle.std.specs.Prelude.{◌≡◌, ◌≤◌, ℕ, false, List, length}
+use Rattle.std.specs.Prelude.{◌≤◌, ℕ, false, List}
 use Rattle.vlsi_base.specs.declared.name.Name.{Name}
 use Rattle.cell_model.specs.Library.{Library}
 use Rattle.net_core.specs.Netlist.{Netlist as InMemory}

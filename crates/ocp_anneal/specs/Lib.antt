@@ -1,1 +1,2 @@
 pub mod Improved
+pub mod Cells

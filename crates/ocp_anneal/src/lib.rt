@@ -2,6 +2,6 @@
 #![tactic(auto)]
 
 mod cells;
-mod improve;
+mod shorter;
 
-pub use improve::{Moves, improve};
+pub use shorter::{Moves, improve};

@@ -18,17 +18,17 @@ use vlsi_base::{Dir, Name, Port, Text};
 /// A pin of a cell: its place among all pins in the order of names, vdd and vss among them, whether it is an output, and the
 /// point at which it is reached.
 #[derive(Clone, Copy)]
-pub(crate) struct PinReach {
-    pub(crate) place: usize,
-    pub(crate) drives: bool,
-    pub(crate) point: Option<GridPoint>,
+pub struct PinReach {
+    pub place: usize,
+    pub drives: bool,
+    pub point: Option<GridPoint>,
 }
 
 /// A cell: its width, and its pins without vdd and vss in the order of names.
 #[derive(Drop)]
-pub(crate) struct Reach {
-    pub(crate) width: u64,
-    pub(crate) pins: Vec<PinReach>,
+pub struct Reach {
+    pub width: u64,
+    pub pins: Vec<PinReach>,
 }
 
 /// The place of a name among those of ports; how many there are where it isn't there.
@@ -104,7 +104,7 @@ fn model_reach(alloc: Global, library: &Library, model: &Text) -> Result<Reach, 
 }
 
 /// Where the pins of models are reached, in their order. Takes memory for the pins of each.
-pub(crate) fn reaches(
+pub fn reaches(
     alloc: Global,
     library: &Library,
     models: &[Text],
