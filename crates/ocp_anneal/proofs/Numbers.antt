@@ -1,23 +1,16 @@
--- The pins of a netlist's instances, and their numbers by name.
-use Rattle.std.proofs.Common.{◌≡◌, ◌≢◌, inl, inr, ℕ, zero, suc, ◌+◌, ◌<◌, List, [], ◌∷◌, length, Option, None, Some, refl, sym, ap, subst, ◌∙◌, arith}
-use Rattle.std.specs.Prelude.{AllPairs}
-use Rattle.std.specs.Option.{option_map}
-use Rattle.std.proofs.lemmas.Bool.{cond-true, cond-false}
+-- The pins of a netlist's instances, by number.
+use Rattle.std.proofs.Common.{◌≡◌, inl, inr, ℕ, zero, suc, ◌+◌, ◌<◌, List, [], ◌∷◌, length, Option, None, Some, refl, sym, ap, subst, ◌∙◌, arith}
 use Rattle.vlsi_base.specs.declared.name.Name.{Name}
 use Rattle.vlsi_base.specs.Member.{In, here, there}
 use Rattle.machine_core.specs.Machine.{names_of}
-use Rattle.machine_core.specs.Named.{is_same_text}
 use Rattle.cell_model.specs.Access.{Point, access_point}
 use Rattle.cell_model.specs.Cell.{Cell, pin_ports}
 use Rattle.cell_model.specs.Library.{Library, cell_of}
 use Rattle.cell_model.proofs.Members.{In-split, In-left, In-right}
-use Rattle.cell_model.proofs.Texts.{text_itself, text_differs}
 use Rattle.net_meaning.specs.Netlist.{Member, AbstractNetlist, pin_of}
 use Rattle.ocp_rows.specs.Placement.{natural}
 use Rattle.ocp_place.specs.Stood.{member}
-use Rattle.ocp_place.proofs.Lists.{first_differs, rest_differs}
 use Rattle.ocp_place.proofs.Points.{flat_back, flat_there}
-use Rattle.row_bridge.specs.Numbered.{number_of, pin_at, cell_pin, own_pin}
 use Rattle.ocp_anneal.specs.declared.cells.Tied.{Tied}
 use Rattle.ocp_anneal.specs.Cells.{tied, point_pin, own_pins, cell_pins}
 
@@ -25,31 +18,6 @@ pub member_in : (ms : List Member) (c : ℕ) → c < length ms → In (member ms
 member_in [] c low = absurd (omega arith)
 member_in (m ∷ ms) zero low = here
 member_in (m ∷ ms) (suc c) low = there (member_in ms c (omega arith))
-
--- where an instance stands
-pub member_at : (ms : List Member) (m : Member) → In m ms → (j : ℕ) × (j < length ms) × (member ms j ≡ m)
-member_at [] m h = elim h [ ]
-member_at (n ∷ ms) m here = (0, omega arith, refl)
-member_at (n ∷ ms) m (there h) = let r = member_at ms m h in let low = r.1 in (suc r.0, omega arith, r.2)
-
--- an instance has its number by its name
-pub number_at : (i : ℕ) (ms : List Member) (j : ℕ) → AllPairs (λ a b. a.name ≢ b.name) ms → j < length ms → number_of i ms (member ms j).name ≡ Some (i + j)
-number_at i [] j names low = absurd (omega arith)
-number_at i (m ∷ ms) zero names low =
-    cond-true (is_same_text m.name m.name) (Some i) (number_of (suc i) ms m.name) (text_itself m.name) ∙ ap (λ (x : ℕ). Some x) (let e : i ≡ i + 0 = omega arith in e)
-number_at i (m ∷ ms) (suc j) names low =
-    let under : j < length ms = omega arith in
-    cond-false (is_same_text m.name (member ms j).name) (Some i) (number_of (suc i) ms (member ms j).name)
-    (text_differs m.name (member ms j).name (first_differs m ms names (member ms j) (member_in ms j under)))
-    ∙ number_at (suc i) ms j (rest_differs m ms names) under
-    ∙ ap (λ (x : ℕ). Some x) (let e : suc i + j ≡ i + suc j = omega arith in e)
-
-pub own_is : (l : Library) (ms : List Member) (j : ℕ) (c : Cell) (pin : Name) → AllPairs (λ a b. a.name ≢ b.name) ms → j < length ms → cell_of l (member ms j).model ≡ Some c
-    → own_pin l ms (number_of 0 ms (member ms j).name) pin ≡ option_map (pin_at j) (access_point c pin)
-own_is l ms j c pin names low found =
-    ap (λ (o : Option ℕ). own_pin l ms o pin) (number_at 0 ms j names low)
-    ∙ ap (λ (x : ℕ). own_pin l ms (Some x) pin) (let e : 0 + j ≡ j = omega arith in e)
-    ∙ ap (λ (o : Option Cell). cell_pin j o pin) found
 
 module _ (n : AbstractNetlist) (l : Library) where
   -- a pin of one of some instances, the first of which has number i

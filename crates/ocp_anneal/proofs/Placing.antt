@@ -7,9 +7,8 @@ use Rattle.vlsi_base.specs.Member.{In}
 use Rattle.sym_geom.specs.declared.grid.TheConstants.{FIRST_CELL_X, PITCH}
 use Rattle.std.specs.Prelude.{pos}
 use Rattle.cell_model.specs.Library.{Library}
-use Rattle.cell_model.proofs.Members.{In-split, All-from}
+use Rattle.cell_model.proofs.Members.{All-from}
 use Rattle.cell_checks.specs.Checked.{IsChecked as HasPassed}
-use Rattle.cell_pins.proofs.Ports.{in_filter}
 use Rattle.net_core.specs.Netlist.{Netlist as InMemory}
 use Rattle.net_meaning.specs.Netlist.{AbstractNetlist, port, a_port}
 use Rattle.net_right.specs.View.{IsSeenAs, member_of}
@@ -18,7 +17,7 @@ use Rattle.row_meaning.specs.Length.{Block}
 use Rattle.row_descent.specs.Law.{ImprovedAlike}
 use Rattle.row_descent.specs.Steps.{IsImproved}
 use Rattle.ocp_rows.specs.Placement.{rows_width}
-use Rattle.ocp_place.specs.Nets.{is_signal, signal_ports}
+use Rattle.ocp_place.specs.Nets.{signal_ports}
 use Rattle.ocp_place.specs.Orderly.{IsOrderly}
 use Rattle.ocp_place.specs.Placed.{InRow, rows_of, AreRowsOf, IsRowPlacementOf}
 use Rattle.ocp_place.specs.Stood.{named_rows, instance_widths, member}
@@ -27,13 +26,12 @@ use Rattle.ocp_place.proofs.Classes.{known, known_seen}
 use Rattle.ocp_place.proofs.RowSited.{columns_are}
 use Rattle.ocp_place.proofs.Seen.{orderly}
 use Rattle.row_bridge.specs.Numbered.{numbered}
-use Rattle.row_bridge.specs.Law.{HoldEachOnce, ImprovedAbove, CanBeImproved, PlacedCanBeImproved, AlikeCanBeImproved, ImprovedHoldEachOnce}
+use Rattle.row_bridge.specs.Law.{NetsAreAlike, HoldEachOnce, ImprovedAbove, CanBeImproved, PlacedCanBeImproved, AlikeCanBeImproved, ImprovedHoldEachOnce}
 use Rattle.ocp_anneal.specs.declared.cells.Tied.{Tied}
 use Rattle.ocp_anneal.specs.Improved.{IsBetter}
-use Rattle.ocp_anneal.specs.Cells.{cell_pins, top_pins, all_pins, signal_nets, last_width, placed_block}
-use Rattle.ocp_anneal.proofs.Numbers.{member_in, cell_there}
-use Rattle.ocp_anneal.proofs.Tops.{port_there}
-use Rattle.ocp_anneal.proofs.Alike.{same_pins}
+use Rattle.ocp_anneal.specs.Cells.{all_pins, signal_nets, last_width, placed_block}
+use Rattle.ocp_anneal.proofs.Numbers.{member_in}
+use Rattle.ocp_anneal.proofs.Alike.{is_pin, same_pins}
 
 -- ---- bounds
 
@@ -47,15 +45,11 @@ some_columns n l p are =
 
 -- each pin's class is one of the netlist's
 pub all_low : (n : AbstractNetlist) (l : Library) (passed : HasPassed false l) (o : IsOrderly n l) (p : InRow) (are : AreRowsOf n l p) (t : Tied) → In t (all_pins n l p) → t.class < n.classes
-all_low n l passed o p are t h = elim (In-split t (cell_pins n l 0 n.instances) (top_pins n p) h) [
-  | inl a ↦
-      let s = cell_there n l 0 n.instances t a in
-      let low = class_low n l passed o (member n.instances s.place) s.cell s.pin (member_in n.instances s.place s.inside) s.found s.is_pin in
-      subst (λ (c : ℕ). c < n.classes) (sym (ap (λ (u : Tied). u.class) s.is)) low
-  | inr b ↦
-      let s = port_there n l o p are t b in
-      let low = o.counted.numbered (port s.name) (a_port (in_filter is_signal n.ports s.name s.listed).0) in
-      subst (λ (c : ℕ). c < n.classes) (sym (ap (λ (u : Tied). u.class) s.is)) low
+all_low n l passed o p are t h = elim (is_pin n l o p are t h) [
+  | inl s ↦ subst (λ (c : ℕ). c < n.classes) s.class_is (o.counted.numbered (port s.name) (a_port s.listed))
+  | inr s ↦
+      subst (λ (c : ℕ). c < n.classes) s.class_is
+      (class_low n l passed o (member n.instances s.number) s.cell s.pin (member_in n.instances s.number s.inside) s.found s.is_pin)
 ]
 
 module _ (l : Library) (n : InMemory) (p : InRow) (placed : IsRowPlacementOf l n p) where
@@ -87,18 +81,18 @@ module _ (l : Library) (n : InMemory) (p : InRow) (placed : IsRowPlacementOf l n
     widths_are =
         ap (λ (c : ℕ). instance_widths l k.instances ++ (FIRST_CELL_X + PITCH * (c + 1)) ∷ []) (columns_are k l o p (placed.rows k seen))
 
-    pub can_be : PlacedCanBeImproved → AlikeCanBeImproved → p.width ≤ 70000000000000 → n.count < 2 ^ 32 → CanBeImproved (placed_block k l p) p.rows
-    can_be can alike narrow few =
+    pub can_be : NetsAreAlike → PlacedCanBeImproved → AlikeCanBeImproved → p.width ≤ 70000000000000 → n.count < 2 ^ 32 → CanBeImproved (placed_block k l p) p.rows
+    can_be nets can alike narrow few =
         let many = seen_classes n k seen in
         subst (λ (ws : List ℕ). CanBeImproved (made ws) p.rows) widths_are
-        (alike FIRST_CELL_X theirs.widths (signal_nets k (all_pins k l p)) theirs.nets p.rows (same_pins k l o p (placed.rows k seen))
+        (alike FIRST_CELL_X theirs.widths (signal_nets k (all_pins k l p)) theirs.nets p.rows (same_pins k l o p (placed.rows k seen) nets)
         (can l n p k placed seen narrow (omega (arith, many, few))))
 
-    pub is_better : ImprovedAlike → ImprovedAbove → (seed moves : ℕ) (new : List (List ℕ)) → IsImproved (placed_block k l p) seed moves p.rows new
+    pub is_better : NetsAreAlike → ImprovedAlike → ImprovedAbove → (seed moves : ℕ) (new : List (List ℕ)) → IsImproved (placed_block k l p) seed moves p.rows new
         → IsBetter k l seed moves (rows_of k p) (record { rows = named_rows k.instances new; ports = signal_ports k; tracks = false })
-    is_better alike better seed moves new improved =
+    is_better nets alike better seed moves new improved =
         let again : IsImproved theirs seed moves p.rows new =
-        alike FIRST_CELL_X theirs.widths (signal_nets k (all_pins k l p)) theirs.nets seed moves p.rows new (same_pins k l o p (placed.rows k seen))
+        alike FIRST_CELL_X theirs.widths (signal_nets k (all_pins k l p)) theirs.nets seed moves p.rows new (same_pins k l o p (placed.rows k seen) nets)
         (subst (λ (ws : List ℕ). IsImproved (made ws) seed moves p.rows new) (sym widths_are) improved) in
         let b = better k l (signal_ports k) seed moves p.rows new o (placed.rows k seen).each_once again in
         record { stable = b.stable; lower = b.lower }
@@ -112,12 +106,12 @@ module _ (l : Library) (n : InMemory) (p : InRow) (placed : IsRowPlacementOf l n
 
   -- in memory
   module _ (b : Block) (is : (k : AbstractNetlist) → IsSeenAs n k → b ≡ placed_block k l p) (old : List (List ℕ)) (kept : old ≡ p.rows) where
-    pub ready : PlacedCanBeImproved → AlikeCanBeImproved → p.width ≤ 70000000000000 → n.count < 2 ^ 32 → CanBeImproved b old
-    ready can alike narrow few =
+    pub ready : NetsAreAlike → PlacedCanBeImproved → AlikeCanBeImproved → p.width ≤ 70000000000000 → n.count < 2 ^ 32 → CanBeImproved b old
+    ready nets can alike narrow few =
         let k = known n in
         let seen = known_seen n placed.drawable.sound in
         subst (λ (c : Block). CanBeImproved c old) (sym (is k seen))
-        (subst (λ (rows : List (List ℕ)). CanBeImproved (placed_block k l p) rows) (sym kept) (can_be k seen can alike narrow few))
+        (subst (λ (rows : List (List ℕ)). CanBeImproved (placed_block k l p) rows) (sym kept) (can_be k seen nets can alike narrow few))
 
     pub once_again : ImprovedHoldEachOnce → (seed moves : ℕ) (new : List (List ℕ)) → IsImproved b seed moves old new → HoldEachOnce (length n.instances) new
     once_again hold seed moves new improved =
@@ -133,8 +127,8 @@ module _ (l : Library) (n : InMemory) (p : InRow) (placed : IsRowPlacementOf l n
         let few = are.few in
         (omega arith, omega arith)
 
-    pub better_now : ImprovedAlike → ImprovedAbove → (seed moves : ℕ) (new : List (List ℕ)) → IsImproved b seed moves old new → (k : AbstractNetlist) → IsSeenAs n k
+    pub better_now : NetsAreAlike → ImprovedAlike → ImprovedAbove → (seed moves : ℕ) (new : List (List ℕ)) → IsImproved b seed moves old new → (k : AbstractNetlist) → IsSeenAs n k
         → IsBetter k l seed moves (rows_of k p) (record { rows = named_rows k.instances new; ports = signal_ports k; tracks = false })
-    better_now alike above seed moves new improved k seen =
-        is_better k seen alike above seed moves new
+    better_now nets alike above seed moves new improved k seen =
+        is_better k seen nets alike above seed moves new
         (subst (λ (c : Block). IsImproved c seed moves p.rows new) (is k seen) (subst (λ (rows : List (List ℕ)). IsImproved b seed moves rows new) kept improved))

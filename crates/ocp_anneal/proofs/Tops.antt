@@ -7,6 +7,7 @@ use Rattle.sym_geom.specs.declared.grid.TheConstants.{PITCH}
 use Rattle.cell_model.specs.Access.{Point}
 use Rattle.cell_model.specs.Library.{Library}
 use Rattle.cell_model.proofs.Members.{In-map, In-map_back}
+use Rattle.cell_pins.proofs.Ports.{in_filter}
 use Rattle.net_meaning.specs.Netlist.{AbstractNetlist, port}
 use Rattle.ocp_rows.specs.Placement.{natural, block_columns, port_column, port_row, column_x, row_y}
 use Rattle.ocp_rows.specs.Length.{point_of}
@@ -18,6 +19,7 @@ use Rattle.ocp_place.specs.Stood.{named_rows, grid_sites}
 use Rattle.ocp_place.proofs.Lists.{different_filter, different_names}
 use Rattle.ocp_place.proofs.Points.{grid_back, grid_there}
 use Rattle.ocp_place.proofs.RowSited.{columns_are}
+use Rattle.row_bridge.specs.Nets.{IsPortPin}
 use Rattle.ocp_anneal.specs.declared.cells.Tied.{Tied}
 use Rattle.ocp_anneal.specs.Cells.{tied, port_pins, top_pins}
 
@@ -57,21 +59,16 @@ module _ (n : AbstractNetlist) (l : Library) (orderly : IsOrderly n l) (p : InRo
       subst (λ (ts : List Tied). In (tied (n.class (port name)) (length n.instances) (natural q.0) (natural q.1)) ts) tops_are
       (In-map (as_pin (length n.instances)) (n.class (port name), q) (grid_sites column many 0 (port_classes n)) (grid_back n column many 0 (signal_ports n) name q e))
 
-  pub record IsPortPin (t : Tied) : Type 0 where
-    pub name : Name
-    pub point : Point
-    pub listed : In name (signal_ports n)
-    pub reached : point_of l (rows_of n p) None name ≡ Some point
-    pub is : t ≡ tied (n.class (port name)) (length n.instances) (natural point.0) (natural point.1)
-
-  pub port_there : (t : Tied) → In t (top_pins n p) → IsPortPin t
+  -- and the other way round
+  pub port_there : (t : Tied) → In t (top_pins n p) → IsPortPin n l (rows_of n p) t.class t.pin
   port_there t h =
       let r = In-map_back (as_pin (length n.instances)) t (grid_sites column many 0 (port_classes n)) (subst (λ (ts : List Tied). In t ts) (sym tops_are) h) in
       let s = grid_there n column many 0 (r.0).0 (signal_ports n) (r.0).1 (different_filter is_signal n.ports (different_names n.ports orderly.order)) r.1 in
       record {
         name = s.0;
-        point = (r.0).1;
-        listed = s.1;
-        reached = s.3;
-        is = sym r.2 ∙ ap (λ (c : ℕ). as_pin (length n.instances) (c, (r.0).1)) (sym s.2);
+        place = (r.0).1;
+        listed = (in_filter is_signal n.ports s.0 s.1).0;
+        class_is = s.2 ∙ ap (λ (u : Tied). u.class) r.2;
+        at = s.3;
+        is = sym (ap (λ (u : Tied). u.pin) r.2);
       }

@@ -11,7 +11,8 @@ use cell_checks::Library;
 use net_core::Netlist;
 use ocp_place::{Placement, place_in_rows};
 use row_bridge::{
-    alike_can_be_improved, improved_above, improved_hold_each_once, placed_can_be_improved,
+    alike_can_be_improved, improved_above, improved_hold_each_once, nets_are_alike,
+    placed_can_be_improved,
 };
 use row_descent::{improve as improve_rows, improved_alike};
 use row_meaning::Cells;
@@ -71,6 +72,7 @@ pub fn improve(
     ensures even { IfOk result (λ p. IsEvenPlacement library.now netlist.now placement.now → IsEvenPlacement library.now netlist.now p) }
     ensures many { IfOk result (λ p. length p.rows ≡ length placement.now.rows) }
 {
+    nets_are_alike();
     improved_alike();
     improved_above();
     placed_can_be_improved();

@@ -27,7 +27,7 @@ shortened-requires-clause-block c =
     let narrow = c.width.ensures.narrow in
     let count = c.count.ensures in
     (ready c.args.library.now c.args.netlist.now p c.requires.placed (block_of c.in_ok-cells.cells) c.in_ok-cells.ensures (rows_of c.rows.result.now) c.rows.ensures
-    c.placed_can_be_improved.ensures c.alike_can_be_improved.ensures (omega (arith, wide, narrow)) (omega (arith, count, c.count.type_inv))).block
+    c.nets_are_alike.ensures c.placed_can_be_improved.ensures c.alike_can_be_improved.ensures (omega (arith, wide, narrow)) (omega (arith, count, c.count.type_inv))).block
 
 pub shortened-requires-clause-rows : goal.shortened-requires-clause-rows
 shortened-requires-clause-rows c =
@@ -36,7 +36,7 @@ shortened-requires-clause-rows c =
     let narrow = c.width.ensures.narrow in
     let count = c.count.ensures in
     (ready c.args.library.now c.args.netlist.now p c.requires.placed (block_of c.in_ok-cells.cells) c.in_ok-cells.ensures (rows_of c.rows.result.now) c.rows.ensures
-    c.placed_can_be_improved.ensures c.alike_can_be_improved.ensures (omega (arith, wide, narrow)) (omega (arith, count, c.count.type_inv))).rows_are
+    c.nets_are_alike.ensures c.placed_can_be_improved.ensures c.alike_can_be_improved.ensures (omega (arith, wide, narrow)) (omega (arith, count, c.count.type_inv))).rows_are
 
 pub shortened-requires-clause-narrow : goal.shortened-requires-clause-narrow
 shortened-requires-clause-narrow c =
@@ -45,7 +45,7 @@ shortened-requires-clause-narrow c =
     let narrow = c.width.ensures.narrow in
     let count = c.count.ensures in
     (ready c.args.library.now c.args.netlist.now p c.requires.placed (block_of c.in_ok-cells.cells) c.in_ok-cells.ensures (rows_of c.rows.result.now) c.rows.ensures
-    c.placed_can_be_improved.ensures c.alike_can_be_improved.ensures (omega (arith, wide, narrow)) (omega (arith, count, c.count.type_inv))).narrow
+    c.nets_are_alike.ensures c.placed_can_be_improved.ensures c.alike_can_be_improved.ensures (omega (arith, wide, narrow)) (omega (arith, count, c.count.type_inv))).narrow
 
 pub place_in_rows-requires-clause-once : goal.place_in_rows-requires-clause-once
 place_in_rows-requires-clause-once c =
@@ -75,4 +75,4 @@ returns-clause-improved c = λ k seen.
     (record { rows = named_rows k.instances rows; ports = signal_ports k; tracks = false }))
     (sym c.in_ok-improved.ensures.rows)
     (better_now c.args.library.now c.args.netlist.now p c.requires.placed (block_of c.in_ok-cells.cells) c.in_ok-cells.ensures (rows_of c.rows.result.now) c.rows.ensures
-    c.improved_alike.ensures c.improved_above.ensures c.args.moves.seed c.args.moves.many (rows_of c.in_ok-rows.rows.items) c.in_ok-rows.ensures k seen)
+    c.nets_are_alike.ensures c.improved_alike.ensures c.improved_above.ensures c.args.moves.seed c.args.moves.many (rows_of c.in_ok-rows.rows.items) c.in_ok-rows.ensures k seen)
