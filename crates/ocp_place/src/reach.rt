@@ -103,12 +103,9 @@ fn model_reach(alloc: Global, library: &Library, model: &Text) -> Result<Reach, 
     }
 }
 
-/// Where the pins of models are reached, in their order. Takes memory for the pins of each.
-pub fn reaches(
-    alloc: Global,
-    library: &Library,
-    models: &[Text],
-) -> Result<Vec<Reach>, AllocError>
+/// Where the pins of models are reached, in their order; a model that is no usable cell of the library has width 0 and no pins. Takes
+/// memory for the pins of each, and for the shapes of its cell meanwhile.
+pub fn reaches(alloc: Global, library: &Library, models: &[Text]) -> Result<Vec<Reach>, AllocError>
     ensures { IfOk result (λ v. AreReaches library.now models.now v.items) }
 {
     let mut reaches = Vec::new(alloc);
