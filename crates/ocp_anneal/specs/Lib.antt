@@ -1,2 +1,3 @@
 pub mod Improved
+pub mod Cells
 pub mod Rows

@@ -1,10 +1,10 @@
-//! Placements in rows made shorter, until no exchange of neighbours makes them shorter still.
+//! Placements of netlists in rows, made shorter until no exchange of neighbours makes them shorter still.
 #![tactic(auto)]
 
+mod at_rows;
 mod cells;
 mod count;
-mod improve;
-mod place;
+mod shorter;
 
-pub use improve::{Moves, improve};
-pub use place::place;
+pub use at_rows::place;
+pub use shorter::{Moves, improve};

@@ -18,17 +18,17 @@ use vlsi_base::{Dir, Name, Port, Text};
 /// A pin of a cell: its place among all pins in the order of names, vdd and vss among them, whether it is an output, and the
 /// point at which it is reached.
 #[derive(Clone, Copy)]
-pub(crate) struct PinReach {
-    pub(crate) place: usize,
-    pub(crate) drives: bool,
-    pub(crate) point: Option<GridPoint>,
+pub struct PinReach {
+    pub place: usize,
+    pub drives: bool,
+    pub point: Option<GridPoint>,
 }
 
 /// A cell: its width, and its pins without vdd and vss in the order of names.
 #[derive(Drop)]
-pub(crate) struct Reach {
-    pub(crate) width: u64,
-    pub(crate) pins: Vec<PinReach>,
+pub struct Reach {
+    pub width: u64,
+    pub pins: Vec<PinReach>,
 }
 
 /// The place of a name among those of ports; how many there are where it isn't there.
@@ -103,12 +103,9 @@ fn model_reach(alloc: Global, library: &Library, model: &Text) -> Result<Reach, 
     }
 }
 
-/// Where the pins of models are reached, in their order. Takes memory for the pins of each.
-pub(crate) fn reaches(
-    alloc: Global,
-    library: &Library,
-    models: &[Text],
-) -> Result<Vec<Reach>, AllocError>
+/// Where the pins of models are reached, in their order; a model that is no usable cell of the library has width 0 and no pins. Takes
+/// memory for the pins of each, and for the shapes of its cell meanwhile.
+pub fn reaches(alloc: Global, library: &Library, models: &[Text]) -> Result<Vec<Reach>, AllocError>
     ensures { IfOk result (λ v. AreReaches library.now models.now v.items) }
 {
     let mut reaches = Vec::new(alloc);

@@ -1,4 +1,4 @@
-// The placement of a netlist in rows.
+// The placement of a netlist, in rows that are asked for or that make a square block.
 ghost use Rattle.std.specs.Prelude.{◌≡◌, ◌≤◌, IfOk, IfSome};
 ghost use Rattle.cell_checks.specs.Checked.{IsChecked as HasPassed};
 ghost use Rattle.net_meaning.specs.Netlist.{AbstractNetlist as Seen};
@@ -8,7 +8,7 @@ ghost use Rattle.ocp_place.specs.Placed.{IsRowPlacementOf, IsEvenPlacement};
 ghost use Rattle.ocp_anneal.specs.Rows.{columns_of, most_rows, IsWellPlaced};
 
 use crate::count::row_count;
-use crate::improve::{Moves, improve};
+use crate::shorter::{Moves, improve};
 use cell_checks::Library;
 use net_core::Netlist;
 use ocp_place::{Placement, row_place, track_place};

@@ -1,0 +1,6 @@
+pub mod Instances
+pub mod Nets
+pub mod Numbers
+pub mod Tops
+pub mod Alike
+pub mod Placing
