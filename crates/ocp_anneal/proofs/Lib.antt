@@ -4,3 +4,4 @@ pub mod Numbers
 pub mod Tops
 pub mod Alike
 pub mod Placing
+pub mod Square

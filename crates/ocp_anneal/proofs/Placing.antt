@@ -28,7 +28,7 @@ use Rattle.ocp_place.proofs.Seen.{orderly}
 use Rattle.row_bridge.specs.Numbered.{numbered}
 use Rattle.row_bridge.specs.Law.{NetsAreAlike, HoldEachOnce, ImprovedAbove, CanBeImproved, PlacedCanBeImproved, AlikeCanBeImproved, ImprovedHoldEachOnce}
 use Rattle.ocp_anneal.specs.declared.cells.Tied.{Tied}
-use Rattle.ocp_anneal.specs.Improved.{IsBetter}
+use Rattle.row_bridge.specs.Improved.{IsBetter}
 use Rattle.ocp_anneal.specs.Cells.{all_pins, signal_nets, last_width, placed_block}
 use Rattle.ocp_anneal.proofs.Numbers.{member_in}
 use Rattle.ocp_anneal.proofs.Alike.{is_pin, same_pins}

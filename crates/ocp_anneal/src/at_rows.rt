@@ -1,5 +1,5 @@
 // The placement of a netlist, in rows that are asked for or that make a square block.
-ghost use Rattle.std.specs.Prelude.{◌≡◌, ◌≤◌, IfOk, IfSome};
+ghost use Rattle.std.specs.Prelude.{◌≡◌, ◌≤◌, false, IfOk, IfSome};
 ghost use Rattle.cell_checks.specs.Checked.{IsChecked as HasPassed};
 ghost use Rattle.net_meaning.specs.Netlist.{AbstractNetlist as Seen};
 ghost use Rattle.net_right.specs.View.{IsSeenAs};

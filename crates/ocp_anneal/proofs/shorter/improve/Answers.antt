@@ -7,7 +7,7 @@ use Rattle.ocp_place.specs.Nets.{signal_ports}
 use Rattle.ocp_place.specs.Placed.{rows_of as placement_of}
 use Rattle.ocp_place.specs.Stood.{named_rows}
 use Rattle.ocp_place.proofs.Classes.{known, known_seen}
-use Rattle.ocp_anneal.specs.Improved.{IsBetter}
+use Rattle.row_bridge.specs.Improved.{IsBetter}
 use Rattle.ocp_anneal.proofs.Placing.{ready, once_again, as_many, better_now}
 use Rattle.ocp_anneal.proofs.shorter.improve.Goals as goal
 
