@@ -19,9 +19,7 @@ use Rattle.net_right.specs.View.{IsSeenAs}
 use Rattle.net_right.specs.Laws.{RightIsWellFormed}
 use Rattle.net_drawing.specs.Shown.{KeepsNetlist}
 use Rattle.ocp_rows.specs.Placement.{IsPlaced, net_count}
-use Rattle.row_meaning.specs.First.{AreEven}
 use Rattle.ocp_place.specs.Nets.{net_number}
-use Rattle.ocp_place.specs.Stood.{named_rows, instance_columns}
 use Rattle.ocp_place.specs.Placed.{InRow, IsRowPlacementOf, rows_of, stood_in}
 use Rattle.ocp_anneal.specs.Rows.{IsWellPlaced}
 use Rattle.grid_core.specs.Routes.{NetRoutes}
@@ -37,7 +35,6 @@ use Rattle.flow_netlist.specs.Laws.{DrivenIsGood}
 use Rattle.flow_run.specs.Origin.{Origin}
 use Rattle.flow_run.specs.Report.{report_by}
 use Rattle.flow_run.specs.Route.{InRows, over_rows}
-use Rattle.flow_run.specs.GridLayout.{IsFirstInRows}
 use Rattle.flow_run.specs.RightLayout.{IsRightLayout}
 use Rattle.flow_run.specs.StuckLayout.{IsStuckLayout}
 use Rattle.flow_run.specs.Drawn.{MayBeDrawn, IsLengthInRows, IsStuckAs}
@@ -74,7 +71,7 @@ pub row_layout : RightIsWellFormed → RightGridDrawingsAreRight → GridDrawing
     → HasPassed false l → MayBeDrawn false l o m fanout n delay → IsRowPlacementOf l n p → IsWellPlaced l n a.rows a.seed a.moves p → a.metals ≤ 6
     → IsRoutedText l n p a.metals bytes → IsLengthInRows l n p long → IsGreatestDcount m nodes
     → report ≡ report_by o m nodes (length n.instances) (n.count - 2) delay long 0 → IsRightLayout bytes o m l fanout (over_rows a) report
-row_layout well extracted written again runs back good in_rows l o m fanout n delay p rows metals bytes long nodes report passed h placed first even few t measured counted
+row_layout well extracted written again runs back good in_rows l o m fanout n delay p a bytes long nodes report passed h placed good_rows few t measured counted
     reported =
     let right = h.netlist.right in
     let k = right.sourced.netlist in

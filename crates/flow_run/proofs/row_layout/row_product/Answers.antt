@@ -1,12 +1,12 @@
-use Rattle.std.proofs.Common.{ℕ, false, subst, refl, arith}
+use Rattle.std.proofs.Common.{false, refl, arith}
 use Rattle.flow_run.specs.View.{origin_view}
 use Rattle.flow_run.specs.Route.{rows_asked}
 use Rattle.flow_run.proofs.Drawing.{drawable}
 use Rattle.flow_run.proofs.RowDrawing.{row_layout, stuck_layout, stuck_or_memory}
 use Rattle.flow_run.proofs.row_layout.row_product.Goals as goal
 
-pub row_place-requires-clause-netlist : goal.row_place-requires-clause-netlist
-row_place-requires-clause-netlist c =
+pub place-requires-clause-netlist : goal.place-requires-clause-netlist
+place-requires-clause-netlist c =
     drawable c.right_may_be_drawn.ensures c.libraries_have_tables.ensures false c.args.library.now (origin_view c.args.counted.now.source.origin) c.args.counted.now.source.machine
     c.args.counted.now.fanout c.args.driven.now.netlist c.args.driven.now.delay c.cells.ensures.checked c.requires.netlist
 
