@@ -7,7 +7,7 @@
 set -eu
 cd "$(dirname "$0")"
 
-COUNTER=(flow examples/counter/cnt4.vbe -l cells -o build/cnt4 --tracks)
+COUNTER=(flow examples/counter/cnt4.vbe -l cells -o build/cnt4)
 
 rt=$(command -v rt || true)
 for folder in "${KIT:-}" /opt/rattle; do

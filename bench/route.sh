@@ -7,8 +7,9 @@
 # Usage: bench/route.sh PROGRAM [SECONDS [PROBE]]      (a run that takes longer than SECONDS, 300 at first, is cut off)
 #        bench/route.sh - SECONDS PROBE                the routing alone
 #
-# GATES in the environment is another list of numbers, METALS another number than 6, ROWS another than 1, FANOUT another than 32; an
-# empty COURSES leaves the circuits of courses out. PROBES is another list of words for PROBE, a run a line.
+# GATES in the environment is another list of numbers, METALS another number than 6, ROWS so many rows in place of as many as make the
+# block about square, FANOUT another number than 32; an empty COURSES leaves the circuits of courses out. PROBES is another list of words
+# for PROBE, a run a line.
 #
 # Columns of PROBE: its words; nodes of the grid, nets, and their points; whether all are routed, or the net and the point at which one is
 # stuck; steps and vias of all paths; seconds, megabytes, and bytes at the most for a node. Where there is no net, so that each node gets
@@ -70,11 +71,12 @@ pairs 6 3200 3125 20 1}"
   echo
 fi
 
-metals=${METALS:-6} rows=${ROWS:-1} fanout=${FANOUT:-32}
+metals=${METALS:-6} fanout=${FANOUT:-32}
+rows=(${ROWS:+--rows "$ROWS"})
 
-"$program" flow row1.vbe -l lib -o r --rows "$rows" --metals "$metals" >printed 2>&1 && status=0 || status=$?
+"$program" flow row1.vbe -l lib -o r "${rows[@]}" --metals "$metals" >printed 2>&1 && status=0 || status=$?
 if [ "$status" = 1 ]; then
-  echo "skipped: the program doesn't route over $rows rows on $metals metals"
+  echo "skipped: the program doesn't route over rows on $metals metals"
   exit 0
 fi
 qrouter=$(command -v qrouter || true)
@@ -87,7 +89,7 @@ routed() {
   local tracks tracks_memory took memory laid=r.ap nodes=- done=- nets=- steps=- vias=- saved=- bytes=- q_took=- q_steps=- q_vias=- q_left=-
   rm -f t.ap r.ap r_part.ap
   read -r tracks tracks_memory < <(measured printed "$program" flow "$2" -l lib -o t --tracks --fanout "$fanout")
-  read -r took memory < <(measured_any printed "$program" flow "$2" -l lib -o r --rows "$rows" --metals "$metals" --fanout "$fanout")
+  read -r took memory < <(measured_any printed "$program" flow "$2" -l lib -o r "${rows[@]}" --metals "$metals" --fanout "$fanout")
   [ -f r.ap ] || laid=r_part.ap
   if [ -f "$laid" ]; then
     read -r nodes done nets steps vias saved < <(python3 "$here/route.py" "$laid" lib t.ap "$metals")

@@ -12,6 +12,8 @@ from acceptance.meaning.layout import COLUMN, FIRST, RAILS, STRAPS, label, node
 from acceptance.readers.vhdl_reader import SUPPLIES
 
 HEIGHT, LOWEST, OF_PORTS = 5000, 2, 3
+# the box above the highest row, for the ports
+OVER_ROWS = 1000
 UP, DOWN = b"NOSYM", b"SYM_Y"
 
 
@@ -31,11 +33,11 @@ class Net(NamedTuple):
 
 
 def rows_of(figure):
-    """The names of a figure's instances by the rows in which they stand, each from the left."""
-    found = {}
+    """The names of a figure's instances by the rows in which they stand, each from the left; there are as many rows as its box is high."""
+    found, rows = {}, (figure.box[3] - OVER_ROWS) // HEIGHT
     for i in sorted(instances_of(figure), key=lambda i: i.x):
         found.setdefault(i.y // HEIGHT, []).append(i.name)
-    return [found.get(r, []) for r in range(max(found, default=0) + 1)]
+    return [found.get(r, []) for r in range(max(rows, max(found, default=0) + 1))]
 
 
 def access(cell, placed, pin):
@@ -120,7 +122,7 @@ def supply_lines(block):
 
 def head_lines(block):
     """All lines before those of the nets."""
-    n, right, top = block.n, 2000 + COLUMN * block.columns, HEIGHT * block.count + 1000
+    n, right, top = block.n, 2000 + COLUMN * block.columns, HEIGHT * block.count + OVER_ROWS
     lines = ["V ALLIANCE : 6", f"H {n.name},P,01/01/2000,100", f"A 0,0,{right},{top}"]
     lines += [f"C 500,{y},600,{name},0,WEST,ALU1" for name, y in RAILS.items()]
     for rank, bit in enumerate(block.ports):

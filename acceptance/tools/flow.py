@@ -2,7 +2,7 @@
 small sources, nets that many pins read, and the layouts that it writes, read again: extracted, compared with a second drawing, and run
 beside their sources. Of a state machine a layout is run beside the walk too: from the codes of states, and behind a reset from any
 contents. Of each netlist driven.py says which buffers and drives it has to have. What is run here has tracks; maze.py runs the same over
-rows, where a layout is read by a second router, and one in which a net is stuck by its marks.
+rows, where a layout is read by a second router and its placement tried for exchanges, and one in which a net is stuck by its marks.
 """
 
 import random
@@ -14,7 +14,7 @@ from acceptance.makers.random_sources import Maker, changed
 from acceptance.makers.random_sources import WORDS as SOURCE_WORDS
 from acceptance.makers.random_states import StateMaker
 from acceptance.makers.random_wide import WideMaker, with_drives
-from acceptance.meaning import diagrams, extraction, layout, maze
+from acceptance.meaning import diagrams, extraction, layout, maze, placing
 from acceptance.meaning.mapping import CHOICE, MOST_SIZE, machine_size
 from acceptance.meaning.rows import Rows, rows_of
 from acceptance.meaning.state_codes import code_lines
@@ -45,7 +45,8 @@ MORE = ["inv_x8", "na3_x1", "sff1_x8", "xr2_x1", "mx2_x2", "buf_x2"]
 WORDS = ["flow", "s.vbe", "-l", "lib", "-o", "r", "--tracks"]
 BOUNDS = {"--rows": (1, 256), "--metals": (4, 6), "--moves": (0, 1000000), "--fanout": (4, 1000000), "--nodes": (1, MOST_NODES)}
 OPTIONS = {"-l": "", "-o": "", "-e": "", "--seed": ""} | dict.fromkeys(BOUNDS, "")
-FANOUT, METALS = 32, 6
+# without `--rows` the block is about square
+DEFAULTS = {"--nodes": NODES, "--fanout": 32, "--metals": 6, "--rows": 0, "--seed": 0, "--moves": 10000}
 NO_PATH = re.compile(rb"(?:flow|gen): no path: (0|[1-9][0-9]*) (\S+)\n")
 # the lines of the report that go by the optimised source: which one comes out is open
 OPEN = ("cells", "nets", "delay", "length")
@@ -64,10 +65,13 @@ class Flow(NamedTuple):
     style: tuple
     has_tracks: bool
     metals: int
+    rows: int | None
+    seed: int
+    moves: int
 
 
 def parsed(words):
-    """The command, or None. A value doesn't begin with a hyphen, so `--tracks` is none; without it there is so far one row alone."""
+    """The command, or None. A value doesn't begin with a hyphen, so `--tracks` is none."""
     at = [k for k, word in enumerate(words) if word == "--tracks"]
     if len(at) > 1 or (at and words[at[0] - 1] in OPTIONS):
         return None
@@ -78,11 +82,9 @@ def parsed(words):
         number = found[1].get(option, str(least))
         if not re.fullmatch("[0-9]{1,10}", number) or not least <= int(number) <= most:
             return None
-    if not at and int(found[1].get("--rows", 0)) != 1:
-        return None
-    defaults = {"--nodes": NODES, "--fanout": FANOUT, "--metals": METALS}
-    nodes, fanout, metals = (int(found[1].get(word, number)) for word, number in defaults.items())
-    return Flow(found[0], found[1]["-l"], found[1]["-o"], nodes, fanout, style_of(found[1]), bool(at), metals)
+    numbers = [int(found[1].get(word, number)) for word, number in DEFAULTS.items()]
+    nodes, fanout, metals, rows, seed, moves = numbers
+    return Flow(found[0], found[1]["-l"], found[1]["-o"], nodes, fanout, style_of(found[1]), bool(at), metals, rows or None, seed, moves)
 
 
 class Source(NamedTuple):
@@ -245,9 +247,10 @@ def drawing_faults(found, files, n, text, stuck):
     if found.has_tracks:
         return layout.text_faults(text, layout.drawn(n, cells_found))
     figure = ap.read(text)
+    placing_faults = list(placing.faults(n, cells_found, rows_of(figure), found.rows, found.seed, found.moves))
     if stuck:
-        return maze.part_faults(text, figure, n, cells_found, found.metals, stuck)
-    return maze.whole_faults(text, figure, n, cells_found, found.metals)
+        return placing_faults + maze.part_faults(text, figure, n, cells_found, found.metals, stuck)
+    return placing_faults + maze.whole_faults(text, figure, n, cells_found, found.metals)
 
 
 def written_faults(words, files, text, stuck=None):

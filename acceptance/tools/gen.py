@@ -95,14 +95,12 @@ class Gen(NamedTuple):
     size: int
     folder: str
     out: str
-    nodes: int
-    fanout: int
     has_tracks: bool
-    metals: int
+    numbers: list
 
 
 def parsed(words):
-    """The command, or None. Every option stands at most once, with its value; without tracks there is so far one row alone."""
+    """The command, or None. Every option stands at most once, with its value."""
     given, rest = {}, list(words[1:])
     while rest:
         option, value = option_of(rest.pop(0))
@@ -121,10 +119,8 @@ def parsed(words):
         text = given.get(word, str(least))
         if not re.fullmatch("[0-9]{1,10}", text) or not least <= int(text) <= most:
             return None
-    if "--tracks" not in given and int(given.get("--rows", 0)) != 1:
-        return None
-    nodes, fanout, metals = int(given.get("--nodes", flow.NODES)), int(given.get("--fanout", flow.FANOUT)), int(given.get("--metals", flow.METALS))
-    return Gen(int(given.get("--seed", 0)), int(given["--size"]), given["-l"], given["-o"], nodes, fanout, "--tracks" in given, metals)
+    numbers = [f"{word}={given[word]}" for word in flow.DEFAULTS if word in given]
+    return Gen(int(given.get("--seed", 0)), int(given["--size"]), given["-l"], given["-o"], "--tracks" in given, numbers)
 
 
 def made(found):
@@ -133,8 +129,8 @@ def made(found):
 
 
 def as_flow(found):
-    most = ["--nodes", str(found.nodes), "--fanout", str(found.fanout), "--metals", str(found.metals)]
-    return ["flow", f"{found.out}.vbe", "-l", found.folder, "-o", found.out, *(["--tracks"] if found.has_tracks else ["--rows", "1"]), *most]
+    tracks = ["--tracks"] if found.has_tracks else []
+    return ["flow", f"{found.out}.vbe", "-l", found.folder, "-o", found.out, *tracks, *found.numbers]
 
 
 def second(words, files):

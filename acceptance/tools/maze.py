@@ -1,4 +1,4 @@
-"""Layouts that `flow` and `gen` route over a row, as a second router sees them: random sources and libraries, examples, sources that get
+"""Layouts that `flow` and `gen` route over rows, as a second router sees them: random sources and libraries, examples, sources that get
 stuck; with a line changed, by the four tools that check what came from elsewhere. The cases with tracks are run over a row too.
 """
 
@@ -22,9 +22,15 @@ MACHINES, STATE_MACHINES, WIDE, DENSE, CIRCUITS, CHECKED, TIGHT = 60, 10, 8, 12,
 STUCK_SIZE, FEW_METALS = 60, [*ROUTING, "--metals", "4"]
 
 
-def routed(words, metals=None):
-    """Words of flow over one row."""
-    return [*(word for word in words if word != "--tracks"), *ROUTING, *(["--metals", str(metals)] if metals else [])]
+def routed(words, metals=None, placed=ROUTING):
+    """Words of flow over rows, if nothing else is said over one."""
+    return [*(word for word in words if word != "--tracks"), *placed, *(["--metals", str(metals)] if metals else [])]
+
+
+def any_rows(choose):
+    """Words for so many rows, or for those of a square block, and for so many moves."""
+    rows = choose.choice([[], ROUTING, ["--rows", str(choose.randrange(2, 9))]])
+    return [*rows, *choose.choice([[], ["--moves", "0"], ["--moves", str(choose.randrange(3000))]])]
 
 
 def small_enough(choose):
@@ -36,16 +42,16 @@ def check_machines(results, program, seed, number):
     choose = random.Random(f"{seed} maze {number}")
     files = {**flow.random_files(choose), "s.vbe": small_enough(choose)}
     with Room() as room:
-        words = routed(flow.words_within(choose.choice([None, 4, 4, 5])), choose.choice([4, 5, 6, None]))
-        flow.run_laid_out(results, room, program, "a random source over a row", files, words)
+        words = routed(flow.words_within(choose.choice([None, 4, 4, 5])), choose.choice([4, 5, 6, None]), any_rows(choose))
+        flow.run_laid_out(results, room, program, "a random source over rows", files, words)
 
 
 def check_states(results, program, seed, number):
     choose = random.Random(f"{seed} maze states {number}")
     files = {**flow.random_files(choose), "s.fsm": StateMaker(choose).source().encode()}
     with Room() as room:
-        words = routed(flow.words_by(choose), choose.choice([4, 6]))
-        flow.run_laid_out(results, room, program, "a random state machine over a row", files, words)
+        words = routed(flow.words_by(choose), choose.choice([4, 6]), any_rows(choose))
+        flow.run_laid_out(results, room, program, "a random state machine over rows", files, words)
 
 
 def check_tight(results, program, seed, number):
@@ -54,7 +60,7 @@ def check_tight(results, program, seed, number):
     more = choose.sample(["xr2_x1", "buf_x2", "na3_x1", "inv_x2"], choose.randrange(3))
     files = {**tight_cells(choose, [*flow.FIVE, *more]), "s.vbe": small_enough(choose)}
     with Room() as room:
-        words = routed(flow.words_within(choose.choice([None, 4])), choose.choice([4, 4, 5, None]))
+        words = routed(flow.words_within(choose.choice([None, 4])), choose.choice([4, 4, 5, None]), any_rows(choose))
         flow.run_laid_out(results, room, program, "a random source over tight cells", files, words)
 
 
@@ -63,8 +69,9 @@ def check_wide(results, program, seed, number):
     choose = random.Random(f"{seed} maze wide {number}")
     readers, fanout = (5, 40)[number % 2], (4, 8, 33)[number // 2 % 3]
     files = {**of_cells([*flow.FIVE, "buf_x2"]), "s.vbe": WideMaker(choose, readers).source().encode()}
+    words = routed(flow.words_within(fanout), placed=any_rows(choose))
     with Room() as room:
-        flow.run_laid_out(results, room, program, f"{readers} readers with {fanout} over a row", files, routed(flow.words_within(fanout)))
+        flow.run_laid_out(results, room, program, f"{readers} readers with {fanout} over rows", files, words)
 
 
 def check_dense(results, program, seed, number):
@@ -107,10 +114,11 @@ def check_words(results, program):
     """Which words choose a row, and files that can't be written."""
     case = Case(flow.ROW)
     row, base = ["flow", "row1.vbe", "-l", "lib", "-o", "out"], case.before
-    for more in ([], ["--rows", "2"], ["--rows", "0"], ["--metals", "4"], [*ROUTING, "--metals", "3"], [*ROUTING, "--metals", "7"]):
+    for more in (["--rows", "0"], ["--rows", "257"], ["--moves", "1000001"], ["--metals", "3"], [*ROUTING, "--metals", "7"]):
         compare(results, f"flow with {more}", run_in(base, program, [*row, *more]), 1, flow.USAGE.encode(), base)
     texts = set()
-    for more in (["--rows", "1"], ["--rows=1"], ["--rows", "0000000001", "--moves", "7"], ["--metals", "4", "--rows", "1", "--seed", "9"]):
+    ways = ([], ["--rows", "1"], ["--rows=1"], ["--rows", "0000000001", "--moves", "7"], ["--metals", "4", "--rows", "1", "--seed", "9"])
+    for more in ways:
         status, _, files = run_in(base, program, [*row, *more])
         texts.add((status, files.get("out.ap")))
     results.note("one inverter over a row", len(texts) == 1 and next(iter(texts))[0] == 0, texts)
@@ -174,27 +182,29 @@ def check_ports(results, program, bits):
 
 
 def check_sources(results, program):
-    """Sources of every sort, among them one without ports and one without cells."""
+    """Sources of every sort, among them one without ports and one without cells, over one row, as many as make a square, and the most."""
     for title, text in flow_limits.SOURCES.items():
-        with Room() as room:
-            files = {**of_cells(flow.FIVE), "s.vbe": text}
-            flow.run_laid_out(results, room, program, f"{title}, over a row", files, routed(flow.WORDS))
+        for placed in (ROUTING, [], ["--rows", "256"]):
+            with Room() as room:
+                files = {**of_cells(flow.FIVE), "s.vbe": text}
+                flow.run_laid_out(results, room, program, f"{title}, {placed}", files, routed(flow.WORDS, placed=placed))
 
 
 def check_example(results, program, path):
     with Room() as room:
         files = {**of_cells(flow.FIVE), f"s{path.suffix}": path.read_bytes()}
-        for metals in (6, 4):
-            words = routed(["flow", f"s{path.suffix}", *flow.WORDS[2:]], metals)
-            flow.run_laid_out(results, room, program, f"the example {path.name} over a row", files, words)
+        for metals, placed in ((6, ROUTING), (4, ROUTING), (6, []), (5, ["--rows", "7", "--seed", "7", "--moves", "50000"])):
+            words = routed(["flow", f"s{path.suffix}", *flow.WORDS[2:]], metals, placed)
+            flow.run_laid_out(results, room, program, f"the example {path.name} over rows", files, words)
             room.folder.joinpath("r.ap").unlink(missing_ok=True)
             room.folder.joinpath("r_part.ap").unlink(missing_ok=True)
 
 
 def check_checked(results, program, seed, number):
-    """Layouts over a row, checked by the four tools as they are and with a line changed."""
+    """Layouts over rows, checked by the four tools as they are and with a line changed."""
     choose = random.Random(f"{seed} checked maze {number}")
-    checked_layouts.run_layout(results, program, "a layout over a row", checked_layouts.small_source(choose), choose, routed(flow.WORDS))
+    words = routed(flow.WORDS, placed=any_rows(choose))
+    checked_layouts.run_layout(results, program, "a layout over rows", checked_layouts.small_source(choose), choose, words)
 
 
 def jobs(program, seed, times):
@@ -208,7 +218,7 @@ def jobs(program, seed, times):
         for number in range(count * times):
             yield check, (program, seed, number)
     for number in range(CIRCUITS * times):
-        yield gen.check_layouts, (program, seed, [1000 + number], ROUTING)
+        yield gen.check_layouts, (program, seed, [1000 + number], (ROUTING, [])[number % 2])
     yield check_any_stuck, (program, seed)
     for path in sorted(ROWS.glob("flow-*/*.txt")):
         if path != FOR_TRACKS:
