@@ -1,5 +1,5 @@
 // Rows of cells, and where each cell stands.
-use crate::total::{at, put, quotient};
+use crate::total::{at, number, put, quotient};
 use row_meaning::{Cells, Pin};
 use std::alloc::{AllocError, Global};
 
@@ -135,7 +135,7 @@ fn nets_of(alloc: Global, cells: &Cells) -> Result<Vec<Vec<u32>>, AllocError> {
     for net in 0..cells.nets.len() {
         let pins = &cells.nets[net];
         if pins.len() > 1 && pins.len() <= MOST_PINS {
-            list_net(&mut lists, pins, net as u32)?;
+            list_net(&mut lists, pins, number(net))?;
         }
     }
     Ok(lists)

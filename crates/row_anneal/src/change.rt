@@ -1,6 +1,6 @@
 // A cell goes to another place, and the cell there comes back or makes room.
 use crate::board::{Board, Spot, put_spot, spot_of};
-use crate::total::{at, cell_at, put_cell};
+use crate::total::{at, cell_at, number, put_cell};
 use row_meaning::Cells;
 use std::alloc::AllocError;
 
@@ -32,7 +32,7 @@ impl Board {
     /// Puts a cell at a place of a row.
     fn put(&mut self, spot: Spot, cell: usize) {
         if spot.row < self.rows.len() {
-            put_cell(&mut self.rows[spot.row], spot.place, cell as u32);
+            put_cell(&mut self.rows[spot.row], spot.place, number(cell));
         }
     }
 
@@ -82,7 +82,7 @@ impl Board {
     /// Puts a cell into a row, before the cell at a place.
     fn put_in(&mut self, spot: Spot, cell: usize) -> Result<(), AllocError> {
         if spot.row < self.rows.len() && spot.place <= self.rows[spot.row].len() {
-            self.rows[spot.row].insert(spot.place, cell as u32)?;
+            self.rows[spot.row].insert(spot.place, number(cell))?;
         }
         Ok(())
     }

@@ -53,3 +53,12 @@ pub(crate) fn quotient(value: u64, divisor: u64) -> u64 {
         value / divisor
     }
 }
+
+/// A number of a cell or a net, which is below 2^32.
+pub(crate) fn number(value: usize) -> u32 {
+    if value < u32::MAX as usize {
+        value as u32
+    } else {
+        u32::MAX
+    }
+}
