@@ -1,5 +1,5 @@
 // Rows of cells, and where each cell stands.
-use crate::total::{at, number, put, quotient};
+use crate::total::{at, cell_at, number, put, quotient};
 use row_meaning::{Cells, Pin};
 use std::alloc::{AllocError, Global};
 
@@ -53,31 +53,29 @@ pub(crate) fn put_spot(spots: &mut [Spot], cell: usize, spot: Spot) {
     }
 }
 
-/// Puts down where the cells of a row stand. Gives where the row ends.
+/// Puts down where the cells of a row stand, from a spot on. Gives where the row ends.
 fn settle_row(spots: &mut [Spot], row: &[u32], widths: &[u64], first: Spot) -> u64 {
-    let mut spot = first;
-    for cell in row {
-        put_spot(spots, *cell as usize, spot);
-        spot = Spot {
-            row: spot.row,
-            place: spot.place.saturating_add(1),
-            start: spot.start.saturating_add(at(widths, *cell as usize)),
+    let mut start = first.start;
+    for place in first.place..row.len() {
+        let cell = cell_at(row, place);
+        let spot = Spot {
+            row: first.row,
+            place,
+            start,
         };
+        put_spot(spots, cell, spot);
+        start = start.saturating_add(at(widths, cell));
     }
-    spot.start
+    start
 }
 
 impl Board {
-    /// Puts down where the cells of the row of this number stand, and how wide it is.
-    pub(crate) fn settle(&mut self, cells: &Cells, row: usize) {
-        let first = Spot {
-            row,
-            place: 0,
-            start: cells.left,
-        };
-        if row < self.rows.len() {
-            let end = settle_row(&mut self.spots, &self.rows[row], &cells.widths, first);
-            put(&mut self.wide, row, end.saturating_sub(cells.left));
+    /// Puts down where the cells of a row stand, from a spot on, and how wide the row is.
+    pub(crate) fn settle(&mut self, cells: &Cells, first: Spot) {
+        if first.row < self.rows.len() {
+            let row = &self.rows[first.row];
+            let end = settle_row(&mut self.spots, row, &cells.widths, first);
+            put(&mut self.wide, first.row, end.saturating_sub(cells.left));
         }
     }
 
@@ -141,14 +139,19 @@ fn nets_of(alloc: Global, cells: &Cells) -> Result<Vec<Vec<u32>>, AllocError> {
     Ok(lists)
 }
 
-/// How wide a row may get where it was narrower: the share of a row, in whole columns, and two columns.
+/// How wide a row may get where it was narrower: the share of a row, in whole columns, and two columns and a third of the widest cell,
+/// but not more than that cell.
 fn limit_of(members: &[u32], widths: &[u64], rows: usize) -> u64 {
     let mut sum: u64 = 0;
+    let mut widest: u64 = 0;
     for cell in members {
-        sum = sum.saturating_add(at(widths, *cell as usize));
+        let width = at(widths, *cell as usize);
+        sum = sum.saturating_add(width);
+        widest = width.max(widest);
     }
-    let columns = quotient(sum, (rows as u64).saturating_mul(PITCH));
-    columns.saturating_add(2).saturating_mul(PITCH)
+    let share = quotient(sum, (rows as u64).saturating_mul(PITCH));
+    let more = (widest / PITCH / 3).saturating_add(2).min(widest / PITCH);
+    share.saturating_add(more).saturating_mul(PITCH)
 }
 
 impl Board {
@@ -176,7 +179,12 @@ impl Board {
             sums: 0,
         };
         for row in 0..rows.len() {
-            board.settle(cells, row);
+            let first = Spot {
+                row,
+                place: 0,
+                start: cells.left,
+            };
+            board.settle(cells, first);
         }
         Ok(board)
     }

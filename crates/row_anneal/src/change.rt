@@ -57,7 +57,7 @@ impl Board {
             )
     }
 
-    /// How much longer the nets of the two cells of a change are before it, and after it, while all others stay.
+    /// How long the nets of the two cells of a change are before it and after it, where all others stay.
     pub(crate) fn estimate(&mut self, cells: &Cells, change: Change) -> Lengths {
         let before = self.length_of_two(cells, change.cell, change.other);
         let from = spot_of(&self.spots, change.cell);
@@ -87,6 +87,18 @@ impl Board {
         Ok(())
     }
 
+    /// Puts down anew where the cells at the two spots of a change and behind them stand.
+    fn settle_both(&mut self, cells: &Cells, change: Change) {
+        if change.from.row != change.to.row {
+            self.settle(cells, change.from);
+            self.settle(cells, change.to);
+        } else if change.from.place < change.to.place {
+            self.settle(cells, change.from);
+        } else {
+            self.settle(cells, change.to);
+        }
+    }
+
     /// Makes a change.
     pub(crate) fn make(&mut self, cells: &Cells, change: Change) -> Result<(), AllocError> {
         if change.back {
@@ -96,8 +108,7 @@ impl Board {
             self.take_out(change.from);
             self.put_in(change.to, change.cell)?;
         }
-        self.settle(cells, change.from.row);
-        self.settle(cells, change.to.row);
+        self.settle_both(cells, change);
         Ok(())
     }
 
@@ -110,8 +121,7 @@ impl Board {
             self.take_out(change.to);
             self.put_in(change.from, change.cell)?;
         }
-        self.settle(cells, change.from.row);
-        self.settle(cells, change.to.row);
+        self.settle_both(cells, change);
         Ok(())
     }
 

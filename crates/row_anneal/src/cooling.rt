@@ -131,19 +131,19 @@ fn run_level(
     Ok(quotient(made.saturating_mul(256), moves as u64))
 }
 
-/// Half of the width and the height of all rows, halved.
+/// An eighth of the width of a row and the height of all together.
 fn first_heat(board: &Board) -> u64 {
     let height = (board.rows.len() as u64).saturating_mul(HEIGHT);
-    board.limit.saturating_add(height) / 2
+    board.limit.saturating_add(height) / 8
 }
 
-/// The next level: somewhat colder, and the window narrower where fewer than 4 of 9 moves changed something.
+/// The next level: somewhat colder, and the window narrower where fewer than 56 of 256 moves changed something.
 fn next(level: Level, made: u64, first: u64) -> Level {
     let heat = level.heat - level.heat / 16;
     Level {
         heat,
-        window: (level.window.saturating_mul(made.saturating_add(143)) / 256).min(WHOLE),
-        exact: heat < first / 16,
+        window: (level.window.saturating_mul(made.saturating_add(200)) / 256).min(WHOLE),
+        exact: heat < first / 4,
     }
 }
 
