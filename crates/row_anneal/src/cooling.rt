@@ -137,13 +137,18 @@ fn first_heat(board: &Board) -> u64 {
     board.limit.saturating_add(height) / 8
 }
 
+/// The heat below which shifted cells count: that takes time for each cell of a row, so it is lower where there are many.
+fn late_heat(board: &Board, first: u64) -> u64 {
+    quotient(first, board.members.len() as u64 / 400 + 4)
+}
+
 /// The next level: somewhat colder, and the window narrower where fewer than 56 of 256 moves changed something.
-fn next(level: Level, made: u64, first: u64) -> Level {
+fn next(level: Level, made: u64, late: u64) -> Level {
     let heat = level.heat - level.heat / 16;
     Level {
         heat,
         window: (level.window.saturating_mul(made.saturating_add(200)) / 256).min(WHOLE),
-        exact: heat < first / 4,
+        exact: heat < late,
     }
 }
 
@@ -157,9 +162,10 @@ pub fn anneal(
 ) -> Result<Vec<Vec<u32>>, AllocError> {
     let mut board = Board::begin(alloc, rows, cells)?;
     let mut generator = Pcg32::seed_from_u64(u64::from(seed));
-    let first = first_heat(&board);
+    let heat = first_heat(&board);
+    let late = late_heat(&board, heat);
     let mut level = Level {
-        heat: first,
+        heat,
         window: WHOLE,
         exact: false,
     };
@@ -168,7 +174,7 @@ pub fn anneal(
             break;
         }
         let made = run_level(&mut board, cells, level, &mut generator)?;
-        level = next(level, made, first);
+        level = next(level, made, late);
     }
     let last = Level {
         heat: 0,
