@@ -75,7 +75,7 @@ impl Board {
     /// Takes the cell at a spot out of its row.
     fn take_out(&mut self, spot: Spot) {
         if spot.row < self.rows.len() && spot.place < self.rows[spot.row].len() {
-            let taken = self.rows[spot.row].remove(spot.place);
+            let _ = self.rows[spot.row].remove(spot.place);
         }
     }
 

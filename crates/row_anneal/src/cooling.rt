@@ -28,10 +28,11 @@ fn part(many: usize, window: u64, least: usize) -> usize {
     (share as usize).max(least)
 }
 
-/// A fraction drawn by a word, as the heat times its logarithm, made positive.
+/// The heat times the natural logarithm of one over a random fraction: its logarithm to base 2 has as its whole part the leading zeros
+/// of a word, and the part behind the point is drawn from the word's last bits.
 fn most_by(word: u32, heat: u64) -> u64 {
-    let eighths = (u64::from(word.leading_zeros()) + 1) * 256 - u64::from(word % 256);
-    heat.saturating_mul(eighths).saturating_mul(177) / 65536
+    let parts = (u64::from(word.leading_zeros()) + 1) * 256 - u64::from(word % 256);
+    heat.saturating_mul(parts).saturating_mul(177) / 65536
 }
 
 /// Where a cell begins at a place of a row, in an exchange or before the cell that stands there.
@@ -80,7 +81,8 @@ fn choose(board: &Board, cells: &Cells, window: u64, generator: &mut Pcg32) -> C
         board.places(from.row) as u64,
     ) as usize;
     let reach = part(many, window, 3);
-    let place = between(w, near.saturating_sub(reach), near.saturating_add(reach).min(many));
+    let end = near.saturating_add(reach).min(many);
+    let place = between(w, near.saturating_sub(reach), end);
     let start = start_at(board, cells, row, place);
     change_to(board, cells, cell, Spot { row, place, start }, v % 4 == 0)
 }
@@ -181,6 +183,6 @@ pub fn anneal(
         window: level.window,
         exact: true,
     };
-    let made = run_level(&mut board, cells, last, &mut generator)?;
+    let _ = run_level(&mut board, cells, last, &mut generator)?;
     copied(alloc, &board.rows)
 }

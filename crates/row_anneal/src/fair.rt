@@ -1,6 +1,5 @@
 // Rows that someone proposes are checked.
-ghost use Rattle.std.specs.Prelude.{◌≡◌, ◌+◌, ◌-◌, ◌/◌, ◌<◌, ◌≤◌, ◌^◌, ℕ, IsTrue, map, length, sum, slice_index, IfOk};
-ghost use Rattle.std.specs.List.{All};
+ghost use Rattle.std.specs.Prelude.{◌≡◌, ◌+◌, ◌<◌, ◌≤◌, ◌^◌, ℕ, IsTrue, map, length, sum, slice_index, IfOk};
 ghost use Rattle.row_meaning.specs.Rows.{row_at, row_width, times_in, times};
 ghost use Rattle.row_meaning.specs.First.{share_of, widest, AreEven};
 ghost use Rattle.row_fill.specs.Law.{HoldsEachOnce};

@@ -34,7 +34,13 @@ fn half_box(spots: &[Spot], pins: &[Pin]) -> u64 {
 }
 
 /// The half perimeters of those nets that aren't marked by this number, which marks them.
-fn sum_unmarked(marks: &mut [u64], list: &[u32], nets: &[Vec<Pin>], spots: &[Spot], mark: u64) -> u64 {
+fn sum_unmarked(
+    marks: &mut [u64],
+    list: &[u32],
+    nets: &[Vec<Pin>],
+    spots: &[Spot],
+    mark: u64,
+) -> u64 {
     let mut sum: u64 = 0;
     for net in list {
         let net = *net as usize;

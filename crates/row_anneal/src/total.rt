@@ -32,11 +32,7 @@ pub(crate) fn put_cell(row: &mut [u32], k: usize, cell: u32) {
 
 /// A word reduced to a number below `many`, and 0 where that is 0.
 pub(crate) fn below(word: u32, many: usize) -> usize {
-    if many == 0 {
-        0
-    } else {
-        word as usize % many
-    }
+    if many == 0 { 0 } else { word as usize % many }
 }
 
 /// A word reduced to a number from the lower one to the higher one.
@@ -47,11 +43,7 @@ pub(crate) fn between(word: u32, low: usize, high: usize) -> usize {
 
 /// A quotient, and 0 where there is no divisor.
 pub(crate) fn quotient(value: u64, divisor: u64) -> u64 {
-    if divisor == 0 {
-        0
-    } else {
-        value / divisor
-    }
+    if divisor == 0 { 0 } else { value / divisor }
 }
 
 /// A number of a cell or a net, which is below 2^32.
