@@ -5,3 +5,4 @@ pub mod Tops
 pub mod Alike
 pub mod Placing
 pub mod Square
+pub mod Fair

@@ -7,6 +7,7 @@ ghost use Rattle.ocp_place.specs.Drawable.{IsDrawableIn};
 ghost use Rattle.ocp_place.specs.Placed.{IsRowPlacementOf, IsEvenPlacement};
 ghost use Rattle.ocp_anneal.specs.Rows.{columns_of, most_rows, IsWellPlaced};
 
+use crate::across::refined;
 use crate::count::row_count;
 use crate::shorter::{Moves, improve};
 use cell_checks::Library;
@@ -26,8 +27,9 @@ fn all_columns(alloc: Global, netlist: &Netlist, library: &Library) -> Result<u6
 }
 
 /// Places a netlist in so many rows, or in as many as make a square block: first by filling the rows in the order of instances, and then
-/// by random moves and exchanges of neighbours, until none makes the nets shorter. Takes memory and time for each terminal, and for the
-/// shapes of the cells in use.
+/// by random moves and exchanges of neighbours, until none makes the nets shorter. Where there are moves, another placement is made by
+/// annealing across rows, and taken where its nets are shorter. Takes memory and time for each terminal, and for the shapes of the cells
+/// in use.
 pub fn place(
     alloc: Global,
     netlist: &Netlist,
@@ -45,6 +47,7 @@ pub fn place(
     let columns = all_columns(alloc, netlist, library)?;
     let count = row_count(rows, columns);
     let first = row_place(alloc, netlist, library, count)?;
-    let placement = improve(alloc, &first, netlist, library, moves)?;
+    let improved = improve(alloc, &first, netlist, library, moves)?;
+    let placement = refined(alloc, improved, netlist, library, moves)?;
     Ok(placement)
 }

@@ -71,7 +71,11 @@ fn classes_from<'c>(classes: &'c [u32], first: u32, many: usize) -> &'c [u32]
 }
 
 /// The widths and the signal pins of a netlist's instances.
-fn instances_of(alloc: Global, netlist: &Netlist, library: &Library) -> Result<Parts, AllocError>
+pub(crate) fn instances_of(
+    alloc: Global,
+    netlist: &Netlist,
+    library: &Library,
+) -> Result<Parts, AllocError>
     requires library { HasPassed false library.now }
     requires netlist { IsDrawableIn library.now netlist.now }
     ensures parts { IfOk result (λ parts. (k : Seen) → IsSeenAs netlist.now k → AreInstances k library.now parts) }

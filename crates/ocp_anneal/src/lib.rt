@@ -1,6 +1,7 @@
 //! Placements of netlists in rows, made shorter until no exchange of neighbours makes them shorter still.
 #![tactic(auto)]
 
+mod across;
 mod at_rows;
 mod cells;
 mod count;
