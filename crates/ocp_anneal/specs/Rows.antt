@@ -15,8 +15,8 @@ use Rattle.row_bridge.specs.Improved.{IsBetter}
 abbrev pub most_rows : ℕ
 most_rows = 256
 
--- Cells of so many columns together stand in the least number of rows whose block isn't wider than it is high, and in 256 at most: a row
--- is ten columns high.
+-- Cells of so many columns together stand in the least number of rows whose share is no wider than all of them are high, and in 256 at
+-- most: a row is ten columns high.
 pub record IsSquare (columns rows : ℕ) : Type 0 where
   pub some : 1 ≤ rows
   pub most : rows ≤ most_rows
