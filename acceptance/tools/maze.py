@@ -18,8 +18,8 @@ from acceptance.tools.boog import of_cells
 
 ROUTING = ["--rows", "1"]
 MACHINES, STATE_MACHINES, WIDE, DENSE, CIRCUITS, CHECKED, TIGHT = 60, 10, 8, 12, 10, 3, 40
-# of circuits of this size on four metals some get stuck
-STUCK_SIZE, FEW_METALS = 60, [*ROUTING, "--metals", "4"]
+# of circuits of this size on four metals, placed without moves, some get stuck
+STUCK_SIZE, FEW_METALS = 300, [*ROUTING, "--metals", "4", "--moves", "0"]
 
 
 def routed(words, metals=None, placed=ROUTING):
@@ -106,7 +106,7 @@ def check_any_stuck(results, program, seed):
     sources = (dense_source(random.Random(f"{seed} stuck {k}"), 120).encode() for k in range(3))
     got = [run_in({**files, "s.vbe": source}, program, routed(flow.WORDS, 4))[0] for source in sources]
     results.note("dense sources get stuck", 6 in got, got)
-    got = [run_in(files, program, circuit_words(seed + k))[0] for k in range(6)]
+    got = [run_in(files, program, circuit_words(seed + k))[0] for k in range(12)]
     results.note("circuits get stuck", 6 in got, got)
 
 
