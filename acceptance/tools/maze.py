@@ -110,6 +110,14 @@ def check_any_stuck(results, program, seed):
     results.note("circuits get stuck", 6 in got, got)
 
 
+def check_annealed(results, program):
+    """Cells that go from row to row make the nets of a block of some size much shorter than exchanges of neighbours alone."""
+    files = {**of_cells(flow.FIVE), "s.vbe": (EXAMPLES / "lock/lock.vbe").read_bytes()}
+    got = [run_in(files, program, routed(flow.WORDS, placed=placed)) for placed in ([], ["--moves", "0"])]
+    lengths = [int(found[1]) for _, printed, _ in got for found in [re.search(rb"^length ([0-9]+)$", bytes(printed), re.M)] if found]
+    results.note("a placement annealed across rows", len(lengths) == 2 and 5 * lengths[0] < 4 * lengths[1], (lengths, [one[0] for one in got]))
+
+
 def check_words(results, program):
     """Which words choose a row, and files that can't be written."""
     case = Case(flow.ROW)
@@ -220,6 +228,7 @@ def jobs(program, seed, times):
     for number in range(CIRCUITS * times):
         yield gen.check_layouts, (program, seed, [1000 + number], (ROUTING, [])[number % 2])
     yield check_any_stuck, (program, seed)
+    yield check_annealed, (program,)
     for path in sorted(ROWS.glob("flow-*/*.txt")):
         if path != FOR_TRACKS:
             yield check_case, (program, path)
