@@ -1,4 +1,4 @@
-use Rattle.std.proofs.Common.{◌≡◌, ◌⊎◌, inl, inr, ◌+◌, ◌<◌, ◌≤◌, ℕ, List, length, map, get_or, ap, arith, rules}
+use Rattle.std.proofs.Common.{refl, ◌≡◌, ◌⊎◌, inl, inr, ◌+◌, ◌<◌, ◌≤◌, ℕ, List, length, map, get_or, ap, arith, rules}
 use Rattle.std.specs.Global.{Vec}
 use Rattle.std.proofs.lemmas.Bool.{cases_lt}
 use Rattle.row_meaning.specs.Rows.{row_at, row_width}
@@ -22,3 +22,9 @@ pub loop-row-preserved : goal.loop-row-preserved
 loop-row-preserved c =
     one_more c.args.columns.now c.args.rows.now c.args.most c.loop-row.row-index c.row-item.result c.row-item.is c.loop-row-test.true
     (search (rules, c.deref.ensures.value, c.if-not-is_within.ensures)) c.loop-row.invariant
+
+pub returns : goal.returns
+returns c = (
+  λ t k d low. (let a = c.loop-row.invariant k (omega (arith, low, c.loop-row-test.false)) in let b = ap (row_width c.args.columns.now) (at_map c.args.rows.now k d low) in omega (arith, a, b)),
+  λ all. refl,
+)
