@@ -1,0 +1,121 @@
+// Whether two figures are the same, line by line.
+ghost use Rattle.std.specs.Prelude.{◌≡◌, ◌↔◌, IsTrue};
+
+use crate::labels::{same_contact, same_name};
+use ap_io::Figure;
+use sym_geom::{Connector, Instance, Item, Reference, Segment, Via};
+
+/// Whether two pieces of wire have the same ends in the same order.
+fn same_ends(a: &Segment, b: &Segment) -> bool
+    ensures { IsTrue result ↔ ((a.now.x1 ≡ b.now.x1) × (a.now.y1 ≡ b.now.y1) × (a.now.x2 ≡ b.now.x2) × (a.now.y2 ≡ b.now.y2)) }
+{
+    a.x1 == b.x1 && a.y1 == b.y1 && a.x2 == b.x2 && a.y2 == b.y2
+}
+
+/// Whether two pieces of wire are the same.
+fn same_segment(a: &Segment, b: &Segment) -> bool
+    ensures { IsTrue result ↔ (a.now ≡ b.now) }
+{
+    same_ends(a, b)
+        && a.width == b.width
+        && a.direction == b.direction
+        && a.layer == b.layer
+        && same_name(&a.name, &b.name)
+}
+
+/// Whether two connectors are the same.
+fn same_connector(a: &Connector, b: &Connector) -> bool
+    ensures { IsTrue result ↔ (a.now ≡ b.now) }
+{
+    a.x == b.x
+        && a.y == b.y
+        && a.width == b.width
+        && a.index == b.index
+        && a.side == b.side
+        && a.layer == b.layer
+        && same_name(&a.name, &b.name)
+}
+
+/// Whether two contacts at points are the same.
+fn same_via(a: &Via, b: &Via) -> bool
+    ensures { IsTrue result ↔ (a.now ≡ b.now) }
+{
+    a.x == b.x
+        && a.y == b.y
+        && same_contact(&a.contact, &b.contact)
+        && same_name(&a.name, &b.name)
+}
+
+/// Whether two instances are the same.
+fn same_instance(a: &Instance, b: &Instance) -> bool
+    ensures { IsTrue result ↔ (a.now ≡ b.now) }
+{
+    a.x == b.x
+        && a.y == b.y
+        && a.model.is_same(&b.model)
+        && a.name.is_same(&b.name)
+        && a.transform == b.transform
+}
+
+/// Whether two points with names are the same.
+fn same_reference(a: &Reference, b: &Reference) -> bool
+    ensures { IsTrue result ↔ (a.now ≡ b.now) }
+{
+    a.x == b.x && a.y == b.y && a.word.is_same(&b.word) && a.name.is_same(&b.name)
+}
+
+/// Whether two lines are the same.
+fn same_item(a: &Item, b: &Item) -> bool
+    ensures { IsTrue result ↔ (a.now ≡ b.now) }
+{
+    match a {
+        Item::Segment(one) => match b {
+            Item::Segment(other) => same_segment(one, other),
+            _ => false,
+        },
+        Item::Connector(one) => match b {
+            Item::Connector(other) => same_connector(one, other),
+            _ => false,
+        },
+        Item::Via(one) => match b {
+            Item::Via(other) => same_via(one, other),
+            _ => false,
+        },
+        Item::Instance(one) => match b {
+            Item::Instance(other) => same_instance(one, other),
+            _ => false,
+        },
+        Item::Reference(one) => match b {
+            Item::Reference(other) => same_reference(one, other),
+            _ => false,
+        },
+        Item::Remark(one) => match b {
+            Item::Remark(other) => one.is_same(other),
+            _ => false,
+        },
+    }
+}
+
+/// Whether two lists of lines are the same, line by line.
+fn same_items(a: &[Item], b: &[Item]) -> bool
+    ensures { IsTrue result ↔ (a.now ≡ b.now) }
+{
+    if a.len() != b.len() {
+        return false;
+    }
+    for k in 0..a.len() {
+        if !same_item(&a[k], &b[k]) {
+            return false;
+        }
+    }
+    true
+}
+
+/// Whether two figures have the same name, the same box and the same lines in the same order.
+pub(crate) fn same_figure(a: &Figure, b: &Figure) -> bool
+    ensures { IsTrue result ↔ (a.now ≡ b.now) }
+{
+    same_name(&a.name, &b.name)
+        && a.bounds == b.bounds
+        && same_items(a.items.as_slice(), b.items.as_slice())
+}
