@@ -27,9 +27,9 @@ pub record AreFilled (stands : List Stand) (rows : List (Vec ℕ)) : Type 0 wher
   pub each : (r : ℕ) (d : Vec ℕ) → r < length rows → (slice_index_or rows r d).items ≡ numbers_in r stands
 
 -- so many rows, each with the numbers of those that stand in it, from the left to the right
-pub record AreReadRows (many : ℕ) (stands : List Stand) (rows : List (List ℕ)) : Type 0 where
+pub record AreReadRows (count : ℕ) (stands : List Stand) (rows : List (List ℕ)) : Type 0 where
   pub sorted : List Stand
   pub same : IsPermutation stands sorted
   pub rising : IsNonDecreasingBy (λ s. s.x) sorted
-  pub many : length rows ≡ many
-  pub each : (r : ℕ) → r < many → row_at rows r ≡ numbers_in r sorted
+  pub many : length rows ≡ count
+  pub each : (r : ℕ) → r < count → row_at rows r ≡ numbers_in r sorted

@@ -1,5 +1,6 @@
 // Whether names and contacts of two lines are the same.
 ghost use Rattle.std.specs.Prelude.{◌≡◌, ◌↔◌, IsTrue};
+ghost use Rattle.ocp_figure.specs.Labels.{lower_metal};
 
 use sym_geom::Contact;
 use vlsi_base::Name;

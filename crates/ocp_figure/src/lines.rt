@@ -3,7 +3,7 @@ ghost use Rattle.std.specs.Prelude.{◌≡◌, ◌↔◌, IsTrue};
 
 use crate::labels::{same_contact, same_name};
 use ap_io::Figure;
-use sym_geom::{Connector, Instance, Item, Reference, Segment, Via};
+use sym_geom::{Connector, Instance, Item, Layer, Reference, Segment, Via};
 
 /// Whether two pieces of wire have the same ends in the same order.
 fn same_ends(a: &Segment, b: &Segment) -> bool
@@ -12,27 +12,41 @@ fn same_ends(a: &Segment, b: &Segment) -> bool
     a.x1 == b.x1 && a.y1 == b.y1 && a.x2 == b.x2 && a.y2 == b.y2
 }
 
+/// Whether two layers are the same.
+fn same_layer(a: &Layer, b: &Layer) -> bool
+    ensures { IsTrue result ↔ (a.now ≡ b.now) }
+{
+    a == b
+}
+
+/// Whether two pieces of wire run the same way, on the same layer and as wide.
+fn same_run(a: &Segment, b: &Segment) -> bool
+    ensures { IsTrue result ↔ ((a.now.direction ≡ b.now.direction) × (a.now.width ≡ b.now.width) × (a.now.layer ≡ b.now.layer)) }
+{
+    a.direction == b.direction && a.width == b.width && same_layer(&a.layer, &b.layer)
+}
+
 /// Whether two pieces of wire are the same.
 fn same_segment(a: &Segment, b: &Segment) -> bool
     ensures { IsTrue result ↔ (a.now ≡ b.now) }
 {
-    same_ends(a, b)
-        && a.width == b.width
-        && a.direction == b.direction
-        && a.layer == b.layer
-        && same_name(&a.name, &b.name)
+    same_ends(a, b) && same_run(a, b) && same_name(&a.name, &b.name)
+}
+
+/// Whether two connectors lie at the same point, as wide, with the same index.
+fn same_place(a: &Connector, b: &Connector) -> bool
+    ensures { IsTrue result ↔ ((a.now.x ≡ b.now.x) × (a.now.y ≡ b.now.y) × (a.now.width ≡ b.now.width) × (a.now.index ≡ b.now.index)) }
+{
+    a.x == b.x && a.y == b.y && a.width == b.width && a.index == b.index
 }
 
 /// Whether two connectors are the same.
 fn same_connector(a: &Connector, b: &Connector) -> bool
     ensures { IsTrue result ↔ (a.now ≡ b.now) }
 {
-    a.x == b.x
-        && a.y == b.y
-        && a.width == b.width
-        && a.index == b.index
+    same_place(a, b)
         && a.side == b.side
-        && a.layer == b.layer
+        && same_layer(&a.layer, &b.layer)
         && same_name(&a.name, &b.name)
 }
 

@@ -1,9 +1,10 @@
 // Where the instances of a figure stand, and the rows of their numbers.
-ghost use Rattle.std.specs.Prelude.{◌≡◌, ◌≤◌, ◌<◌, ◌+◌, ◌*◌, ◌^◌, ℕ, pos, map, flat_map, length, IsPermutation, IfOk, OnOk};
+ghost use Rattle.std.specs.Prelude.{◌≡◌, ◌≤◌, ◌<◌, ◌+◌, ◌*◌, ◌^◌, ℕ, pos, [], map, flat_map, length, IsPermutation, IfOk, OnOk};
 ghost use Rattle.std.specs.List.{All};
 ghost use Rattle.std.specs.List.Sorted.{IsNonDecreasingBy};
 ghost use Rattle.sym_geom.specs.declared.grid.TheConstants.{PITCH as pitch, ROW_HEIGHT as row_height};
 ghost use Rattle.cell_model.specs.Layout.{instances_of};
+ghost use Rattle.row_meaning.specs.First.{numbers};
 ghost use Rattle.ocp_rows.specs.Placement.{natural};
 ghost use Rattle.ocp_figure.specs.Stands.{row_near, stands_from, AreFilled, AreReadRows};
 
@@ -91,7 +92,8 @@ fn sort_stands(stands: &mut Vec<Stand>) -> Result<(), AllocError>
     ensures same { IsPermutation stands.old.items stands.new.items }
     ensures rising { OnOk result (IsNonDecreasingBy (λ s. s.x) stands.new.items) }
 {
-    stands.sort_by_key(|stand| stand.x)
+    stands.sort_by_key(|stand| stand.x)?;
+    Ok(())
 }
 
 /// Empty rows, so many.
@@ -129,7 +131,9 @@ pub(crate) fn read_rows(
     requires some { 1 ≤ rows }
     requires few { rows ≤ 256 }
     requires count { length (instances_of items.now) < 2 ^ 32 }
-    ensures { IfOk result (λ made. AreReadRows rows (stands_from rows 0 (instances_of items.now)) (map (λ v. v.items) made.items)) }
+    ensures many { IfOk result (λ made. length made.items ≡ rows) }
+    ensures once { IfOk result (λ made. IsPermutation (flat_map (λ row. row) (map (λ v. v.items) made.items)) (numbers 0 (length (instances_of items.now)))) }
+    ensures read { IfOk result (λ made. AreReadRows rows (stands_from rows 0 (instances_of items.now)) (map (λ v. v.items) made.items)) }
 {
     let mut stands = stands_of(alloc, items, rows)?;
     sort_stands(&mut stands)?;
