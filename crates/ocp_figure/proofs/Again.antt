@@ -73,8 +73,8 @@ rises_row w f base (d ∷ row) is wide = (
       let some = wide 0 (omega arith) in
       omega arith,
   rises_row w f (base + slice_index w d) row
-  (λ k l. is (suc k) (omega arith) ∙ (let e : base + (slice_index w d + lead w row k) ≡ (base + slice_index w d) + lead w row k = omega arith in e))
-  (λ k l. wide (suc k) (omega arith)),
+      (λ k l. is (suc k) (omega arith) ∙ (let e : base + (slice_index w d + lead w row k) ≡ (base + slice_index w d) + lead w row k = omega arith in e))
+      (λ k l. wide (suc k) (omega arith)),
 )
 
 -- ---- instances in order

@@ -54,10 +54,7 @@ fn same_connector(a: &Connector, b: &Connector) -> bool
 fn same_via(a: &Via, b: &Via) -> bool
     ensures { IsTrue result ↔ (a.now ≡ b.now) }
 {
-    a.x == b.x
-        && a.y == b.y
-        && same_contact(&a.contact, &b.contact)
-        && same_name(&a.name, &b.name)
+    a.x == b.x && a.y == b.y && same_contact(&a.contact, &b.contact) && same_name(&a.name, &b.name)
 }
 
 /// Whether two instances are the same.

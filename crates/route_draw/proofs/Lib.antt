@@ -13,3 +13,4 @@ pub mod Rows
 pub mod Gridded
 pub mod Fits
 pub mod GridWritten
+pub mod Bare
