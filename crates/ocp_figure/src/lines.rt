@@ -3,7 +3,7 @@ ghost use Rattle.std.specs.Prelude.{◌≡◌, ◌↔◌, IsTrue};
 
 use crate::labels::{same_contact, same_name};
 use ap_io::Figure;
-use sym_geom::{Connector, Instance, Item, Layer, Reference, Segment, Via};
+use sym_geom::{Connector, Instance, Item, Layer, Rect, Reference, Segment, Via};
 
 /// Whether two pieces of wire have the same ends in the same order.
 fn same_ends(a: &Segment, b: &Segment) -> bool
@@ -122,11 +122,26 @@ fn same_items(a: &[Item], b: &[Item]) -> bool
     true
 }
 
+/// Whether two boxes have the same edges.
+fn same_edges(a: &Rect, b: &Rect) -> bool
+    ensures { IsTrue result ↔ ((a.now.x1 ≡ b.now.x1) × (a.now.y1 ≡ b.now.y1) × (a.now.x2 ≡ b.now.x2) × (a.now.y2 ≡ b.now.y2)) }
+{
+    a.x1 == b.x1 && a.y1 == b.y1 && a.x2 == b.x2 && a.y2 == b.y2
+}
+
+/// Whether two boxes are the same.
+fn same_box(a: &Rect, b: &Rect) -> bool
+    ensures { IsTrue result ↔ (a.now ≡ b.now) }
+{
+    same_edges(a, b)
+}
+
 /// Whether two figures have the same name, the same box and the same lines in the same order.
 pub(crate) fn same_figure(a: &Figure, b: &Figure) -> bool
     ensures { IsTrue result ↔ (a.now ≡ b.now) }
 {
-    same_name(&a.name, &b.name)
-        && a.bounds == b.bounds
-        && same_items(a.items.as_slice(), b.items.as_slice())
+    if !same_name(&a.name, &b.name) {
+        return false;
+    }
+    same_box(&a.bounds, &b.bounds) && same_items(a.items.as_slice(), b.items.as_slice())
 }

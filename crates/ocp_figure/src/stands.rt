@@ -132,7 +132,8 @@ pub(crate) fn read_rows(
     requires few { rows ≤ 256 }
     requires count { length (instances_of items.now) < 2 ^ 32 }
     ensures many { IfOk result (λ made. length made.items ≡ rows) }
-    ensures once { IfOk result (λ made. IsPermutation (flat_map (λ row. row) (map (λ v. v.items) made.items)) (numbers 0 (length (instances_of items.now)))) }
+    ensures once { IfOk result (λ made. IsPermutation (flat_map (λ row. row) (map (λ v. v.items) made.items))
+        (numbers 0 (length (instances_of items.now)))) }
     ensures read { IfOk result (λ made. AreReadRows rows (stands_from rows 0 (instances_of items.now)) (map (λ v. v.items) made.items)) }
 {
     let mut stands = stands_of(alloc, items, rows)?;
