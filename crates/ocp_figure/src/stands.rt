@@ -15,7 +15,7 @@ use sym_geom::{Instance, Item, ROW_HEIGHT, Rect};
 const MOST_ROWS: u64 = 256;
 
 /// Where an instance stands: where it begins, in which row, and its number in the order of lines.
-#[derive(Clone, Copy, Drop)]
+#[derive(Clone, Copy)]
 pub(crate) struct Stand {
     pub(crate) x: u64,
     pub(crate) row: usize,
