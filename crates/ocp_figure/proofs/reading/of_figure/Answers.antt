@@ -1,4 +1,4 @@
-use Rattle.std.proofs.Common.{◌≡◌, ℕ, List, map, length, ap, subst, ◌∙◌, arith}
+use Rattle.std.proofs.Common.{ℕ, List, map, length, ap, subst, arith}
 use Rattle.std.specs.Global.{Vec}
 use Rattle.std.proofs.lemmas.List.{length-map}
 use Rattle.sym_geom.specs.declared.item.Item.{Item}
