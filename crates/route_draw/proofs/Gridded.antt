@@ -1,5 +1,5 @@
 -- The figure that is drawn of a netlist in rows.
-use Rattle.std.proofs.Common.{◌≡◌, ℕ, ◌+◌, ◌*◌, ◌<◌, ◌≤◌, ◌^◌, List, [], ◌++◌, map, length, Option, Some, sym, ap, subst, ◌∙◌, arith, if◌then◌else◌}
+use Rattle.std.proofs.Common.{◌≡◌, ℕ, ◌+◌, ◌*◌, ◌<◌, ◌≤◌, ◌^◌, List, [], ◌++◌, map, length, Option, Some, sym, ap, ap₂, subst, ◌∙◌, arith, append_assoc, if◌then◌else◌}
 use Rattle.std.specs.Prelude.{ℤ, pos, ◌+ℤ◌, ◌/◌, slice_get, flat_map, filter}
 use Rattle.std.specs.Int.{int_max}
 use Rattle.std.proofs.lemmas.Int.{ints, int_max_is}
@@ -20,7 +20,7 @@ use Rattle.net_meaning.specs.Netlist.{Member, AbstractNetlist}
 use Rattle.net_meaning.specs.Breaches.{Breaches}
 use Rattle.net_right.specs.View.{member_of, IsSeenAs}
 use Rattle.net_right.proofs.Terminals.{seen_ports, seen_instances}
-use Rattle.ocp_rows.specs.Placement.{IsPlaced, natural, rows_width, block_width, block_columns, block_box, supply_ports, grid_ports, port_column, supplies_to, net_count}
+use Rattle.ocp_rows.specs.Placement.{IsPlaced, natural, rows_width, block_width, block_columns, block_box, supply_ports, placed_ports, grid_ports, port_column, supplies_to, net_count}
 use Rattle.ocp_place.specs.Nets.{is_signal, signal_ports, net_number}
 use Rattle.ocp_place.specs.Placed.{InRow, IsRowPlacementOf, rows_of, stood_in}
 use Rattle.ocp_place.specs.Stood.{named_rows, stood_all}
@@ -39,8 +39,8 @@ use Rattle.maze_wires.specs.declared.wires.NetWires.{NetWires}
 use Rattle.ocp_grid.specs.Points.{ArePointsIn}
 use Rattle.ocp_grid.specs.Law.{PlacementsAreInRows}
 use Rattle.route_draw.specs.Pieces.{signal_names}
-use Rattle.route_draw.specs.GridPieces.{stood_lines, supplies_over, via_points, wiring_of, wiring_in, AreWired, numbered_lines, wires_of, marks_of, wired_lines, mark_lines, block_lines}
-use Rattle.route_draw.specs.Grid.{AreDrawable, IsDrawnInGrid, IsMarked}
+use Rattle.route_draw.specs.GridPieces.{stood_lines, supplies_over, via_points, wiring_of, wiring_in, AreWired, numbered_lines, wires_of, marks_of, wired_lines, mark_lines, bare_lines, block_lines}
+use Rattle.route_draw.specs.Grid.{AreDrawable, placed_items, IsDrawnInGrid, IsMarked}
 use Rattle.route_draw.proofs.Joins.{counted}
 use Rattle.route_draw.proofs.Lists.{by_number}
 use Rattle.route_draw.proofs.Rows.{supplies_are}
@@ -62,6 +62,17 @@ all_numbered f g many xs e each =
     ∙ by_number f g 0 xs (λ i x s.
     let z : i ≡ 0 + i = omega arith in
     subst (λ (j : ℕ). g j ≡ f j x) z (each i x s))
+
+-- lines that stand behind all others
+behind : (a b c d e : List Item) → (a ++ (b ++ (c ++ d))) ++ e ≡ a ++ (b ++ (c ++ (d ++ e)))
+behind a b c d e =
+    append_assoc a (b ++ (c ++ d)) e ∙ ap (λ (xs : List Item). a ++ xs) (append_assoc b (c ++ d) e) ∙ ap (λ (xs : List Item). a ++ (b ++ xs)) (append_assoc c d e)
+
+pub bare_and_wired : (n : InMemory) (p : InRow) (nets : List NetWires) → block_lines n p nets ≡ bare_lines (signal_names n.ports) n p ++ wired_lines 0 (signal_names n.ports) nets
+bare_and_wired n p nets =
+    let names = signal_names n.ports in
+    sym (behind supply_ports (grid_ports (port_column (length names) (p.width / PITCH)) (length p.rows) 0 names) (stood_lines n.instances p.starts p.row_numbers)
+    (supplies_over p.width (length p.rows)) (wired_lines 0 names nets))
 
 module _ (l : Library) (n : InMemory) (p : InRow) (placed : IsRowPlacementOf l n p) where
   -- the netlist of layouts that it is known by
@@ -92,6 +103,40 @@ module _ (l : Library) (n : InMemory) (p : InRow) (placed : IsRowPlacementOf l n
       let e = ap length (names_are its_netlist its_seen) in
       let a = wide_columns p.width (rows_width l (named_rows its_netlist.instances p.rows)) (length (signal_ports its_netlist)) rows.width in
       omega (arith, a, e)
+
+  -- the lines without those of nets
+  pub bare_are : (k : AbstractNetlist) → IsSeenAs n k → bare_lines (signal_names n.ports) n p ≡ placed_items k l (rows_of k p) (stood_in k p)
+  bare_are k seen =
+      let rows = placed.rows k seen in
+      let names = signal_ports k in
+      let count = length names in
+      let columns : p.width / PITCH ≡ block_columns l (rows_of k p) = ap (λ (w : ℤ). natural w / PITCH) rows.width in
+      let many : length p.rows ≡ length (named_rows k.instances p.rows) = sym (length-map p.rows _) in
+      let stand : stood_lines n.instances p.starts p.row_numbers ≡ map item.Instance (stood_in k p) =
+      ap (λ (ms : List Member). map item.Instance (stood_all ms p.starts p.row_numbers)) (sym (seen_instances n k seen)) in
+      let end : pos (FIRST_CELL_X + p.width) ≡ (pos FIRST_CELL_X +ℤ block_width l (rows_of k p)) = ap (λ (w : ℤ). pos FIRST_CELL_X +ℤ w) rows.width in
+      let supplied : supplies_over p.width (length p.rows) ≡ supplies_to (pos FIRST_CELL_X +ℤ block_width l (rows_of k p)) (named_rows k.instances p.rows) =
+      ap (supplies_over p.width) many ∙ sym (supplies_are p.width (named_rows k.instances p.rows))
+      ∙ ap (λ (z : ℤ). supplies_to z (named_rows k.instances p.rows)) end in
+      let ports : grid_ports (port_column count (p.width / PITCH)) (length p.rows) 0 names
+      ≡ grid_ports (port_column count (block_columns l (rows_of k p))) (length (named_rows k.instances p.rows)) 0 names =
+      ap (λ (c : ℕ). grid_ports (port_column count c) (length p.rows) 0 names) columns
+      ∙ ap (λ (r : ℕ). grid_ports (port_column count (block_columns l (rows_of k p))) r 0 names) many in
+      ap (λ (ns : List Name). bare_lines ns n p) (names_are k seen)
+      ∙ ap (λ (is : List Item). supply_ports ++ (is ++ (stood_lines n.instances p.starts p.row_numbers ++ supplies_over p.width (length p.rows)))) ports
+      ∙ ap₂ (λ (is js : List Item). supply_ports ++ (grid_ports (port_column count (block_columns l (rows_of k p))) (length (named_rows k.instances p.rows)) 0 names ++ (is ++ js)))
+      stand supplied
+
+  -- the box
+  pub box_is : (bounds : Rect) → bounds.x1 ≡ pos 0 → bounds.y1 ≡ pos 0 → bounds.x2 ≡ pos (FIRST_CELL_X + PITCH + p.width) → bounds.y2 ≡ pos (ROW_HEIGHT * length p.rows + 2 * PITCH)
+      → (k : AbstractNetlist) → IsSeenAs n k → bounds ≡ block_box k l (rows_of k p)
+  box_is bounds x1 y1 x2 y2 k seen =
+      let wide : pos (FIRST_CELL_X + PITCH + p.width) ≡ (pos (FIRST_CELL_X + PITCH) +ℤ block_width l (rows_of k p)) =
+      ap (λ (z : ℤ). pos (FIRST_CELL_X + PITCH) +ℤ z) (placed.rows k seen).width in
+      let high : pos (ROW_HEIGHT * length p.rows + 2 * PITCH) ≡ pos (ROW_HEIGHT * length (named_rows k.instances p.rows) + 2 * PITCH) =
+      ap (λ (r : ℕ). pos (ROW_HEIGHT * r + 2 * PITCH)) (sym (length-map p.rows _)) in
+      rect_is bounds (pos 0) (pos 0) (pos (FIRST_CELL_X + PITCH) +ℤ block_width l (rows_of k p)) (pos (ROW_HEIGHT * length (named_rows k.instances p.rows) + 2 * PITCH))
+      x1 y1 (x2 ∙ wide) (y2 ∙ high)
 
   module _ (points : List NetPoints) (are : ArePointsIn l n p points) where
     -- there are fewer nets than 32 bits can number
@@ -147,30 +192,13 @@ module _ (l : Library) (n : InMemory) (p : InRow) (placed : IsRowPlacementOf l n
       -- all lines together
       lines_are : (k : AbstractNetlist) → IsSeenAs n k → block_lines n p nets ≡ maze_items k l (rows_of k p) (stood_in k p) (wiring_in nets)
       lines_are k seen =
-          let rows = placed.rows k seen in
-          let names = signal_ports k in
-          let count = length names in
-          let columns : p.width / PITCH ≡ block_columns l (rows_of k p) = ap (λ (w : ℤ). natural w / PITCH) rows.width in
-          let many : length p.rows ≡ length (named_rows k.instances p.rows) = sym (length-map p.rows _) in
-          let stand : stood_lines n.instances p.starts p.row_numbers ≡ map item.Instance (stood_in k p) =
-          ap (λ (ms : List Member). map item.Instance (stood_all ms p.starts p.row_numbers)) (sym (seen_instances n k seen)) in
-          let end : pos (FIRST_CELL_X + p.width) ≡ (pos FIRST_CELL_X +ℤ block_width l (rows_of k p)) = ap (λ (w : ℤ). pos FIRST_CELL_X +ℤ w) rows.width in
-          let supplied : supplies_over p.width (length p.rows) ≡ supplies_to (pos FIRST_CELL_X +ℤ block_width l (rows_of k p)) (named_rows k.instances p.rows) =
-          ap (supplies_over p.width) many ∙ sym (supplies_are p.width (named_rows k.instances p.rows))
-          ∙ ap (λ (z : ℤ). supplies_to z (named_rows k.instances p.rows)) end in
-          let ports : grid_ports (port_column count (p.width / PITCH)) (length p.rows) 0 names
-          ≡ grid_ports (port_column count (block_columns l (rows_of k p))) (length (named_rows k.instances p.rows)) 0 names =
-          ap (λ (c : ℕ). grid_ports (port_column count c) (length p.rows) 0 names) columns
-          ∙ ap (λ (r : ℕ). grid_ports (port_column count (block_columns l (rows_of k p))) r 0 names) many in
-          ap (λ (ns : List Name). supply_ports ++ (grid_ports (port_column (length ns) (p.width / PITCH)) (length p.rows) 0 ns
-          ++ (stood_lines n.instances p.starts p.row_numbers ++ (supplies_over p.width (length p.rows) ++ wired_lines 0 ns nets)))) (names_are k seen)
-          ∙ ap (λ (is : List Item). supply_ports ++ (is ++ (stood_lines n.instances p.starts p.row_numbers ++ (supplies_over p.width (length p.rows) ++ wired_lines 0 names nets)))) ports
-          ∙ ap (λ (is : List Item). supply_ports ++ (grid_ports (port_column count (block_columns l (rows_of k p))) (length (named_rows k.instances p.rows)) 0 names
-          ++ (is ++ (supplies_over p.width (length p.rows) ++ wired_lines 0 names nets)))) stand
-          ∙ ap (λ (is : List Item). supply_ports ++ (grid_ports (port_column count (block_columns l (rows_of k p))) (length (named_rows k.instances p.rows)) 0 names
-          ++ (map item.Instance (stood_in k p) ++ (is ++ wired_lines 0 names nets)))) supplied
-          ∙ ap (λ (is : List Item). supply_ports ++ (grid_ports (port_column count (block_columns l (rows_of k p))) (length (named_rows k.instances p.rows)) 0 names
-          ++ (map item.Instance (stood_in k p) ++ (supplies_to (pos FIRST_CELL_X +ℤ block_width l (rows_of k p)) (named_rows k.instances p.rows) ++ is)))) (sym (wires_are k seen))
+          let names = signal_names n.ports in
+          let wired : wired_lines 0 names nets ≡ maze_wiring k (signal_ports k) (wiring_in nets) =
+          ap (λ (ns : List Name). wired_lines 0 ns nets) (names_are k seen) ∙ sym (wires_are k seen) in
+          bare_and_wired n p nets
+          ∙ ap₂ (λ (xs ys : List Item). xs ++ ys) (bare_are k seen) wired
+          ∙ behind supply_ports (placed_ports l (rows_of k p)) (map item.Instance (stood_in k p))
+          (supplies_to (pos FIRST_CELL_X +ℤ block_width l (rows_of k p)) (named_rows k.instances p.rows)) (maze_wiring k (signal_ports k) (wiring_in nets))
 
       module _ (in_rows : PlacementsAreInRows) (keep : RoutesKeepNets) (show : RoutesShowNetlist) (drawable : AreDrawable l n p routes) where
         routed : (k : AbstractNetlist) → IsSeenAs n k → IsRouted k l (net_number k l) (rows_of k p) (stood_in k p) drawable.metals routes (wiring_in nets)
@@ -215,10 +243,4 @@ module _ (l : Library) (n : InMemory) (p : InRow) (placed : IsRowPlacementOf l n
           right k seen = keep k l (net_number k l) (rows_of k p) (stood_in k p) drawable.metals routes (wiring_in nets) (routed k seen)
 
           box : (k : AbstractNetlist) → IsSeenAs n k → bounds ≡ block_box k l (rows_of k p)
-          box k seen =
-              let wide : pos (FIRST_CELL_X + PITCH + p.width) ≡ (pos (FIRST_CELL_X + PITCH) +ℤ block_width l (rows_of k p)) =
-              ap (λ (z : ℤ). pos (FIRST_CELL_X + PITCH) +ℤ z) (placed.rows k seen).width in
-              let high : pos (ROW_HEIGHT * length p.rows + 2 * PITCH) ≡ pos (ROW_HEIGHT * length (named_rows k.instances p.rows) + 2 * PITCH) =
-              ap (λ (r : ℕ). pos (ROW_HEIGHT * r + 2 * PITCH)) (sym (length-map p.rows _)) in
-              rect_is bounds (pos 0) (pos 0) (pos (FIRST_CELL_X + PITCH) +ℤ block_width l (rows_of k p)) (pos (ROW_HEIGHT * length (named_rows k.instances p.rows) + 2 * PITCH))
-              x1 y1 (x2 ∙ wide) (y2 ∙ high)
+          box k seen = box_is bounds x1 y1 x2 y2 k seen

@@ -13,3 +13,5 @@ pub mod Rows
 pub mod Gridded
 pub mod Fits
 pub mod GridWritten
+pub mod Bare
+pub mod BareWritten

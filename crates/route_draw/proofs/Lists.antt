@@ -28,6 +28,13 @@ joined {A} nothing none first second third fourth fifth a b c d e o p q r s t u 
     u ∙ ap (λ (xs : List A). xs ++ e) (t ∙ ap (λ (xs : List A). xs ++ d) (s ∙ ap (λ (xs : List A). xs ++ c) (r ∙ ap (λ (xs : List A). xs ++ b) (q ∙ ap (λ (xs : List A). xs ++ a) (p ∙ o)))))
     ∙ append_assoc ((a ++ b) ++ c) d e ∙ append_assoc (a ++ b) c (d ++ e) ∙ append_assoc a b (c ++ (d ++ e))
 
+-- four lists that were
+pub joined_four : {A : Type 0} (nothing none first second third fourth a b c d : List A) → nothing ≡ [] → none ≡ nothing → first ≡ none ++ a → second ≡ first ++ b → third ≡ second ++ c → fourth ≡ third ++ d
+    → fourth ≡ a ++ (b ++ (c ++ d))
+joined_four {A} nothing none first second third fourth a b c d o p q r s t =
+    t ∙ ap (λ (xs : List A). xs ++ d) (s ∙ ap (λ (xs : List A). xs ++ c) (r ∙ ap (λ (xs : List A). xs ++ b) (q ∙ ap (λ (xs : List A). xs ++ a) (p ∙ o))))
+    ∙ append_assoc (a ++ b) c d ∙ append_assoc a b (c ++ d)
+
 -- ---- rails
 
 rail_ys_last : (upright turned r many : ℕ) → rail_ys_from upright turned r (suc many) ≡ rail_ys_from upright turned r many ++ rail_y upright turned (r + many) ∷ []

@@ -21,7 +21,7 @@ use Rattle.ocp_grid.specs.Points.{nodes_of}
 use Rattle.grid_core.specs.Routes.{NetRoutes}
 use Rattle.grid_core.specs.Trees.{AreWhole}
 use Rattle.route_draw.specs.Drawn.{IsDrawnInTracks}
-use Rattle.route_draw.specs.Grid.{AreDrawable, IsDrawnInGrid, IsMarked}
+use Rattle.route_draw.specs.Grid.{AreDrawable, IsDrawnInGrid, IsDrawnPlaced, IsMarked}
 
 -- A netlist may be drawn over a checked library where no two pins of a cell in use are reached in one column, as each netlist of layouts
 -- that it is seen as.
@@ -53,7 +53,13 @@ GridDrawingCanBeWritten =
     (l : Library) (n : InMemory) (p : InRow) (routes : NetRoutes) (f : Figure) → IsRowPlacementOf l n p → AreDrawable l n p routes → CanBeNamed n → HasShortNames n
     → HasFewPins n → length n.ports ≤ 8192 → IsDrawnInGrid l n p routes f → IsFigure f × HasNearLines f
 
--- And so can this figure with marks at the points of nets.
+-- So can that of rows without routes.
+abbrev pub PlacedDrawingCanBeWritten : Type 0
+PlacedDrawingCanBeWritten =
+    (l : Library) (n : InMemory) (p : InRow) (f : Figure) → IsRowPlacementOf l n p → CanBeNamed n → HasShortNames n
+    → HasFewPins n → length n.ports ≤ 8192 → IsDrawnPlaced l n p f → IsFigure f × HasNearLines f
+
+-- And so can the figure of routes with marks at the points of nets.
 abbrev pub MarkedDrawingCanBeWritten : Type 0
 MarkedDrawingCanBeWritten =
     (l : Library) (n : InMemory) (p : InRow) (routes : NetRoutes) (f g : Figure) → IsRowPlacementOf l n p → AreDrawable l n p routes → CanBeNamed n → HasShortNames n

@@ -4,8 +4,8 @@ ghost use Rattle.sym_geom.specs.declared.grid.TheConstants.{PITCH as pitch, ROW_
 ghost use Rattle.grid_core.specs.Shown.{tree_in};
 ghost use Rattle.ocp_place.specs.Placed.{IsRowPlacementOf};
 ghost use Rattle.route_draw.specs.Pieces.{signal_names};
-ghost use Rattle.route_draw.specs.GridPieces.{block_lines};
-ghost use Rattle.route_draw.specs.Grid.{AreDrawable, IsDrawnInGrid, IsMarked};
+ghost use Rattle.route_draw.specs.GridPieces.{block_lines, bare_lines};
+ghost use Rattle.route_draw.specs.Grid.{AreDrawable, IsDrawnInGrid, IsDrawnPlaced, IsMarked};
 
 use crate::grid_nets::{all_wires, push_all_marks, push_wired};
 use crate::grid_rows::{push_grid_ports, push_stood, push_supplies};
@@ -41,6 +41,29 @@ fn grid_box(width: u64, rows: usize) -> Rect
     }
 }
 
+/// The lines of the placement without those of nets, where the ports that are no supplies have these names.
+fn bare_lines(
+    alloc: Global,
+    names: &[Name],
+    netlist: &Netlist,
+    placement: &Placement,
+) -> Result<Items, AllocError>
+    requires starts { length placement.now.starts ≡ length netlist.now.instances }
+    requires row_numbers { length placement.now.row_numbers ≡ length netlist.now.instances }
+    requires wide { length names.now < placement.now.width / pitch }
+    requires rows { length placement.now.rows ≤ 256 }
+    ensures { IfOk result (λ items. items ≡ bare_lines names.now netlist.now placement.now) }
+{
+    let columns = placement.width() / u64::from(PITCH);
+    let rows = placement.rows().len();
+    let mut items = Items::new(Vec::new(alloc));
+    push_supply_ports(alloc, &mut items)?;
+    push_grid_ports(alloc, &mut items, names, columns, rows)?;
+    push_stood(alloc, &mut items, netlist, placement)?;
+    push_supplies(alloc, &mut items, placement.width(), rows)?;
+    Ok(items)
+}
+
 /// All lines of the figure.
 fn grid_lines(
     alloc: Global,
@@ -55,15 +78,49 @@ fn grid_lines(
     ensures { IfOk result (λ items. items ≡ block_lines netlist.now placement.now nets.now) }
 {
     let names = signal_names(alloc, netlist.ports())?;
-    let columns = placement.width() / u64::from(PITCH);
-    let rows = placement.rows().len();
-    let mut items = Items::new(Vec::new(alloc));
-    push_supply_ports(alloc, &mut items)?;
-    push_grid_ports(alloc, &mut items, &names, columns, rows)?;
-    push_stood(alloc, &mut items, netlist, placement)?;
-    push_supplies(alloc, &mut items, placement.width(), rows)?;
+    let mut items = bare_lines(alloc, &names, netlist, placement)?;
     push_wired(alloc, &mut items, &names, nets)?;
     Ok(items)
+}
+
+/// The lines of a figure without routes.
+fn placed_lines(
+    alloc: Global,
+    netlist: &Netlist,
+    placement: &Placement,
+) -> Result<Items, AllocError>
+    requires starts { length placement.now.starts ≡ length netlist.now.instances }
+    requires row_numbers { length placement.now.row_numbers ≡ length netlist.now.instances }
+    requires wide { length (signal_names netlist.now.ports) < placement.now.width / pitch }
+    requires rows { length placement.now.rows ≤ 256 }
+    ensures { IfOk result (λ items. items ≡ bare_lines (signal_names netlist.now.ports) netlist.now placement.now) }
+{
+    let names = signal_names(alloc, netlist.ports())?;
+    let items = bare_lines(alloc, &names, netlist, placement)?;
+    Ok(items)
+}
+
+/// Draws a netlist that is placed in rows, without a wire or a via of its nets: the ports of vss and vdd, the other ports in the order
+/// of names, the instances in the netlist's order, and rails and straps of the supplies. Takes memory and time for these lines.
+pub fn draw_placed(
+    alloc: Global,
+    placement: &Placement,
+    netlist: &Netlist,
+    library: &Library,
+) -> Result<Figure, AllocError>
+    requires placed { IsRowPlacementOf library.now netlist.now placement.now }
+    ensures { IfOk result (λ f. IsDrawnPlaced library.now netlist.now placement.now f) }
+{
+    let _ = library;
+    placements_are_in_rows();
+    routes_keep_nets();
+    let items = placed_lines(alloc, netlist, placement)?;
+    let name = netlist.name().copy(alloc)?;
+    Ok(Figure {
+        name: Some(Name::scalar(name)),
+        bounds: grid_box(placement.width(), placement.rows().len()),
+        items,
+    })
 }
 
 /// Draws a netlist that is placed in rows, with routes of its nets: the ports of vss and vdd, the other ports in the order of names,

@@ -1,6 +1,7 @@
 // What is true of drawings.
-ghost use Rattle.route_draw.specs.Law.{NetlistsAreDrawable, RightDrawingsAreRight, RightGridDrawingsAreRight, DrawingCanBeWritten, GridDrawingCanBeWritten, MarkedDrawingCanBeWritten};
+ghost use Rattle.route_draw.specs.Law.{NetlistsAreDrawable, RightDrawingsAreRight, RightGridDrawingsAreRight, DrawingCanBeWritten, GridDrawingCanBeWritten, MarkedDrawingCanBeWritten, PlacedDrawingCanBeWritten};
 
+use maze_drawing::{routes_keep_nets, routes_show_netlist};
 use ocp_grid::{placements_are_in_rows, points_are_apart};
 
 /// A netlist of usable cells may be drawn over a checked library, where no two pins of a cell in use are reached in one column.
@@ -30,7 +31,16 @@ pub fn grid_drawing_can_be_written()
     placements_are_in_rows();
 }
 
-/// And so can this figure with marks at the points of nets.
+/// So can that of rows without routes.
+pub fn placed_drawing_can_be_written()
+    ensures { PlacedDrawingCanBeWritten }
+{
+    placements_are_in_rows();
+    routes_keep_nets();
+    routes_show_netlist();
+}
+
+/// And so can the figure of routes with marks at the points of nets.
 pub fn marked_drawing_can_be_written()
     ensures { MarkedDrawingCanBeWritten }
 {

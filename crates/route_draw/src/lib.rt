@@ -10,9 +10,10 @@ mod nets;
 mod row;
 mod tracks;
 
-pub use grid::{draw, mark};
+pub use grid::{draw, draw_placed, mark};
 pub use law::{
     drawing_can_be_written, grid_drawing_can_be_written, marked_drawing_can_be_written,
-    netlists_are_drawable, right_drawings_are_right, right_grid_drawings_are_right,
+    netlists_are_drawable, placed_drawing_can_be_written, right_drawings_are_right,
+    right_grid_drawings_are_right,
 };
 pub use tracks::draw_tracks;

@@ -1,40 +1,26 @@
-use Rattle.std.proofs.Common.{◌≡◌, ℕ, ◌++◌, List, length, sym, ap, ◌∙◌}
+use Rattle.std.proofs.Common.{◌≡◌, ◌<◌, ◌++◌, List, length, sym, ap, ap₂, subst, ◌∙◌}
 use Rattle.std.specs.Prelude.{◌/◌}
-use Rattle.std.proofs.lemmas.List.{length-map}
 use Rattle.vlsi_base.specs.declared.name.Name.{Name}
 use Rattle.vlsi_base.specs.declared.name.Port.{Port}
 use Rattle.sym_geom.specs.declared.grid.TheConstants.{PITCH}
-use Rattle.ocp_rows.specs.Placement.{supply_ports, grid_ports, port_column}
+use Rattle.sym_geom.specs.declared.item.Item.{Item}
 use Rattle.route_draw.specs.Pieces.{signal_names}
-use Rattle.route_draw.specs.GridPieces.{stood_lines, supplies_over, wired_lines}
-use Rattle.route_draw.proofs.Lists.{joined}
+use Rattle.route_draw.specs.GridPieces.{bare_lines, wired_lines}
+use Rattle.route_draw.proofs.Gridded.{bare_and_wired}
 use Rattle.route_draw.proofs.grid.grid_lines.Goals as goal
+
+pub bare_lines-requires-clause-wide : goal.bare_lines-requires-clause-wide
+bare_lines-requires-clause-wide c =
+    subst (λ (names : List Name). length names < c.args.placement.now.width / PITCH)
+    (sym (c.deref.ensures.value ∙ c.in_ok-names.ensures ∙ ap (λ (ports : List Port). signal_names ports) c.ports.ensures)) c.requires.wide
 
 pub returns : goal.returns
 returns c =
     let n = c.args.netlist.now in
     let p = c.args.placement.now in
-    let all = signal_names n.ports in
-    let first = c.push_supply_ports.new.items in
-    let second = c.push_grid_ports.new.items in
-    let third = c.push_stood.new.items in
-    let fourth = c.push_supplies.new.items in
-    let width = c.width.result in
-    let pitch = c.from.result in
-    let many = length c.rows-rows.result.now in
-    let signals : signal_names c.ports.result.now ≡ all = ap (λ (ports : List Port). signal_names ports) c.ports.ensures in
-    let columns : width / pitch ≡ p.width / PITCH = ap (λ (w : ℕ). w / pitch) c.width.ensures.width ∙ ap (λ (d : ℕ). p.width / d) c.from.ensures in
-    let rows : many ≡ length p.rows = sym (length-map c.rows-rows.result.now _) ∙ ap length c.rows-rows.ensures in
-    joined c.new.result.items c.new-items.result first second third fourth c.push_wired.new.items supply_ports
-    (grid_ports (port_column (length all) (p.width / PITCH)) (length p.rows) 0 all)
-    (stood_lines n.instances p.starts p.row_numbers) (supplies_over p.width (length p.rows)) (wired_lines 0 all c.args.nets.now)
-    c.new.ensures.items
-    c.new-items.ensures
-    c.in_ok-push_supply_ports.ensures
-    (c.in_ok-push_grid_ports.ensures
-    ∙ ap (λ (names : List Name). first ++ grid_ports (port_column (length names) (width / pitch)) many 0 names) (c.deref.ensures.value ∙ c.in_ok-names.ensures ∙ signals)
-    ∙ ap (λ (k : ℕ). first ++ grid_ports (port_column (length all) k) many 0 all) columns
-    ∙ ap (λ (k : ℕ). first ++ grid_ports (port_column (length all) (p.width / PITCH)) k 0 all) rows)
-    c.in_ok-push_stood.ensures
-    (c.in_ok-push_supplies.ensures ∙ ap (λ (w : ℕ). third ++ supplies_over w many) c.width-2.ensures.width ∙ ap (λ (k : ℕ). third ++ supplies_over p.width k) rows)
-    (c.in_ok-push_wired.ensures ∙ ap (λ (names : List Name). fourth ++ wired_lines 0 names c.args.nets.now) (c.deref-2.ensures.value ∙ c.in_ok-names.ensures ∙ signals))
+    let nets = c.args.nets.now in
+    let signals : c.in_ok-names.names.items ≡ signal_names n.ports = c.in_ok-names.ensures ∙ ap (λ (ports : List Port). signal_names ports) c.ports.ensures in
+    let bare = c.in_ok-items.ensures ∙ ap (λ (names : List Name). bare_lines names n p) (c.deref.ensures.value ∙ signals) in
+    c.in_ok-push_wired.ensures
+    ∙ ap₂ (λ (is js : List Item). is ++ js) bare (ap (λ (names : List Name). wired_lines 0 names nets) (c.deref-2.ensures.value ∙ signals))
+    ∙ sym (bare_and_wired n p nets)

@@ -1,0 +1,4 @@
+pub mod Filled
+pub mod Again
+pub mod Placed
+pub mod Few

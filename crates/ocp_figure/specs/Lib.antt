@@ -1,0 +1,3 @@
+pub mod Labels
+pub mod Stands
+pub mod Answers
