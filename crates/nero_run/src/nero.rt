@@ -69,7 +69,7 @@ fn routed(
         Ok(placement) => placement,
         Err(status) => return Err(Refusal::plain(status)),
     };
-    if let Err(status) = check_nodes(&placement, &netlist, library, command.metals) {
+    if let Err(status) = check_nodes(&placement, command.metals) {
         return Err(Refusal::plain(status));
     }
     product(alloc, command, &netlist, library, &placement)

@@ -1,5 +1,5 @@
 // The placement that is to be routed, as it is read.
-ghost use Rattle.std.specs.Prelude.{◌≡◌, ◌≤◌, ◌<◌, length, false, IfOk, IfErr, OnOk};
+ghost use Rattle.std.specs.Prelude.{◌≡◌, ◌≤◌, length, false, IfOk, IfErr, OnOk};
 ghost use Rattle.cell_model.specs.Library.{Library as Cells};
 ghost use Rattle.cell_checks.specs.Checked.{IsChecked as HasPassed};
 ghost use Rattle.net_core.specs.Netlist.{Netlist as InMemory};
@@ -66,14 +66,12 @@ fn grid_nodes(placement: &Placement, metals: u32) -> u64
 
 /// Whether the grid over the rows of a placement has few enough nodes to be routed on, or the status that tells how many it has. Takes
 /// no memory.
-pub(crate) fn check_nodes(placement: &Placement, netlist: &Netlist, library: &Library, metals: u32) -> Result<(), Status>
-    requires placed { IsRowPlacementOf library.now netlist.now placement.now }
+pub(crate) fn check_nodes(placement: &Placement, metals: u32) -> Result<(), Status>
+    requires rows { length placement.now.rows ≤ 256 }
     requires metals { (4 ≤ metals) × (metals ≤ 6) }
-    ensures few { OnOk result (HasFewNodes library.now netlist.now placement.now metals) }
-    ensures many { IfErr result (λ s. IsOverGrid library.now netlist.now placement.now metals s) }
+    ensures few { OnOk result ((l : Cells) (n : InMemory) → IsRowPlacementOf l n placement.now → HasFewNodes l n placement.now metals) }
+    ensures many { IfErr result (λ s. (l : Cells) (n : InMemory) → IsRowPlacementOf l n placement.now → IsOverGrid l n placement.now metals s) }
 {
-    let _ = netlist.classes();
-    let _ = library;
     let nodes = grid_nodes(placement, metals);
     if nodes <= MOST_NODES {
         return Ok(());

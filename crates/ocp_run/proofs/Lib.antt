@@ -1,0 +1,3 @@
+mod Ports
+pub mod Reading
+mod Refusing

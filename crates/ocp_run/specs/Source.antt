@@ -21,7 +21,7 @@ HasPort n name = IsThere (map (λ p. p.name) n.ports) name
 
 -- a port is the scalar of this text; and one of some is
 abbrev pub is_named : List ℕ → Port → Bool
-is_named text p = is_none p.name.bit && bytes_eq p.name.text text
+is_named text p = bytes_eq p.name.text text && is_none p.name.bit
 
 abbrev pub is_among : List ℕ → List Port → Bool
 is_among text ports = list_any (is_named text) ports

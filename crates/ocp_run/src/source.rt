@@ -16,7 +16,7 @@ use vst_io::read_vst;
 fn is_named(port: &Port, text: &[u8]) -> bool
     ensures { result ≡ is_port_named text.now port.now }
 {
-    port.name.bit.is_none() && port.name.text.as_bytes() == text
+    port.name.text.as_bytes() == text && port.name.bit.is_none()
 }
 
 fn has_port(ports: &[Port], text: &[u8]) -> bool
