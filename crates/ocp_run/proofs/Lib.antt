@@ -1,3 +1,4 @@
 mod Ports
-pub mod Reading
-mod Refusing
+mod Cells
+mod Reading
+pub mod Refusing

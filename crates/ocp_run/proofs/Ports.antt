@@ -1,13 +1,19 @@
--- Ports by their names.
+-- Ports by their names, and places in lists.
 use Rattle.std.proofs.Common.{◌≡◌, ℕ, zero, suc, Bool, true, false, ◌&&◌, ◌||◌, List, [], ◌∷◌, map, Option, None, Some, is_none, bytes_eq, refl, sym, ap, ◌∙◌, subst}
 use Rattle.std.proofs.lemmas.Bool.{and_parts}
 use Rattle.std.proofs.lemmas.Option.{same_Some}
 use Rattle.std.proofs.lemmas.Slice.Eq.{bytes_eq-Decides}
+use Rattle.vlsi_base.specs.Member.{In, here, there}
 use Rattle.vlsi_base.specs.declared.name.Name.{Name}
 use Rattle.vlsi_base.specs.declared.name.Port.{Port}
 use Rattle.vlsi_base.specs.Names.{scalar}
 use Rattle.net_core.specs.Places.{IsThere}
 use Rattle.ocp_run.specs.Source.{is_named, is_among}
+
+pub in_stands : {A : Type 0} (xs : List A) (x : A) → IsThere xs x → In x xs
+in_stands [] x (k, h) = absurd cc
+in_stands (y ∷ xs) x (zero, h) = let same : y ≡ x = cc h in subst (λ z. In z (y ∷ xs)) same here
+in_stands (y ∷ xs) x (suc k, h) = there (in_stands xs x (k, h))
 
 no_bit : (b : Option ℕ) → is_none b ≡ true → b ≡ None
 no_bit None h = refl
