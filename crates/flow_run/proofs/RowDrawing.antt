@@ -40,9 +40,9 @@ use Rattle.flow_run.specs.StuckLayout.{IsStuckLayout}
 use Rattle.flow_run.specs.Drawn.{MayBeDrawn, IsLengthInRows, IsStuckAs}
 use Rattle.tool_drive.specs.declared.tool.Refusal.{Refusal}
 use Rattle.tool_drive.specs.Table.{IsFair}
-use Rattle.flow_run.specs.declared.row_layout.NoRoutes.{NoRoutes}
-use Rattle.flow_run.specs.declared.row_layout.NoRoutes.TheVariants as none
-use Rattle.flow_run.specs.RowText.{IsRoutedText, IsStuckText, LacksRoutes, IsRefusedSo}
+use Rattle.nero_run.specs.declared.row_text.NoRoutes.{NoRoutes}
+use Rattle.nero_run.specs.declared.row_text.NoRoutes.TheVariants as none
+use Rattle.nero_run.specs.RowText.{IsRoutedText, IsStuckText, LacksRoutes, IsRefusedSo}
 use Rattle.flow_run.proofs.Drawing.{right_for, report_same}
 
 -- the routes of a placement that is drawn

@@ -18,6 +18,7 @@ use Rattle.tool_drive.specs.declared.tool.Product.{Product}
 use Rattle.tool_drive.specs.declared.tool.Refusal.{Refusal}
 use Rattle.tool_drive.specs.declared.status.Status.TheVariants as status
 use Rattle.syf_machine.specs.Meaning.{DoesAs}
+use Rattle.nero_run.specs.RowText.{part_name}
 use Rattle.flow_run.specs.Origin.{Origin, equations, states}
 use Rattle.flow_run.specs.Route.{InRows, Route}
 use Rattle.flow_run.specs.RightLayout.{IsRightLayout}
@@ -27,9 +28,6 @@ use Rattle.flow_netlist.specs.Laws.{IsDrawableSoon}
 
 abbrev pub layout_name : List ℕ → List ℕ
 layout_name out = out ++ codes ".ap"
-
-abbrev pub part_name : List ℕ → List ℕ
-part_name out = out ++ codes "_part.ap"
 
 -- a state machine's machine does what it does
 abbrev pub DoesAsOrigin : Origin → Machine → Type 0

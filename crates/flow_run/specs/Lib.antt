@@ -10,7 +10,6 @@ pub mod RightLayout
 pub mod StuckLayout
 pub mod Mapped
 pub mod Drawn
-pub mod RowText
 pub mod Flow
 pub mod Causes
 pub mod Laws

@@ -6,4 +6,4 @@ mod words;
 
 pub use law::words_are_within_bounds;
 pub use tool_words::Encoding;
-pub use words::{FLOW_ENTRY, FlowCommand, GEN_ENTRY, GenCommand};
+pub use words::{FLOW_ENTRY, FlowCommand, GEN_ENTRY, GenCommand, METALS, MOVES, ROWS};

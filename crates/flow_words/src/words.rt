@@ -56,8 +56,8 @@ const TRACKS: Setting = Setting {
     form: Form::Flag,
 };
 
-// How many rows of cells.
-const ROWS: Setting = Setting {
+/// How many rows of cells; where it is left out, as many as make a square block.
+pub const ROWS: Setting = Setting {
     name: "rows",
     letter: None,
     value: "1..256",
@@ -65,8 +65,8 @@ const ROWS: Setting = Setting {
     form: Form::Number(1, 256, None),
 };
 
-// How many metals.
-const METALS: Setting = Setting {
+/// How many metals.
+pub const METALS: Setting = Setting {
     name: "metals",
     letter: None,
     value: "4..6",
@@ -74,8 +74,8 @@ const METALS: Setting = Setting {
     form: Form::Number(4, 6, Some(6)),
 };
 
-// How often the placement is tried to be made better.
-const MOVES: Setting = Setting {
+/// How often the placement is tried to be made better.
+pub const MOVES: Setting = Setting {
     name: "moves",
     letter: None,
     value: "0..1000000",

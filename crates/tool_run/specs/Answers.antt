@@ -16,6 +16,10 @@ use Rattle.boog_run.specs.Words.{boog}
 use Rattle.boog_run.specs.Boog.{boog_plan, boog_answers}
 use Rattle.loon_run.specs.Words.{loon}
 use Rattle.loon_run.specs.Loon.{loon_plan, loon_answers}
+use Rattle.ocp_run.specs.Words.{ocp}
+use Rattle.ocp_run.specs.Ocp.{ocp_plan, ocp_answers}
+use Rattle.nero_run.specs.Words.{nero}
+use Rattle.nero_run.specs.Nero.{nero_plan, nero_answers}
 use Rattle.asimut_run.specs.Words.{asimut}
 use Rattle.asimut_run.specs.declared.words.AsimutTask.TheVariants as task
 use Rattle.asimut_run.specs.Asimut.{asimut_plan, asimut_answers}
@@ -49,6 +53,8 @@ task_of (command.Syf c) = record { word = syf.word; plan = syf_plan c; answers =
 task_of (command.Boom c) = record { word = boom.word; plan = boom_plan c; answers = boom_answers c }
 task_of (command.Boog c) = record { word = boog.word; plan = boog_plan c; answers = boog_answers c }
 task_of (command.Loon c) = record { word = loon.word; plan = loon_plan c; answers = loon_answers c }
+task_of (command.Ocp c) = record { word = ocp.word; plan = ocp_plan c; answers = ocp_answers c }
+task_of (command.Nero c) = record { word = nero.word; plan = nero_plan c; answers = nero_answers c }
 task_of (command.Asimut (task.Source c)) = record { word = asimut.word; plan = asimut_plan c; answers = asimut_answers c }
 task_of (command.Asimut (task.Netlist c)) = record { word = asimut.word; plan = netlist_plan c; answers = netlist_answers c }
 task_of (command.Cougar c) = record { word = cougar.word; plan = cougar_plan c; answers = cougar_answers c }

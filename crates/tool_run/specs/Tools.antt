@@ -7,6 +7,8 @@ use Rattle.syf_run.specs.Words.{syf, syf_from}
 use Rattle.boom_run.specs.Words.{boom, boom_from}
 use Rattle.boog_run.specs.Words.{boog, boog_from}
 use Rattle.loon_run.specs.Words.{loon, loon_from}
+use Rattle.ocp_run.specs.Words.{ocp, ocp_from}
+use Rattle.nero_run.specs.Words.{nero, nero_from}
 use Rattle.asimut_run.specs.Words.{asimut, asimut_from}
 use Rattle.cougar_run.specs.Words.{cougar, cougar_from}
 use Rattle.lvx_run.specs.Words.{lvx, lvx_from}
@@ -23,6 +25,8 @@ tools =
     ∷ tool boom command.Boom boom_from
     ∷ tool boog command.Boog boog_from
     ∷ tool loon command.Loon loon_from
+    ∷ tool ocp command.Ocp ocp_from
+    ∷ tool nero command.Nero nero_from
     ∷ tool asimut command.Asimut asimut_from
     ∷ tool cougar command.Cougar cougar_from
     ∷ tool lvx command.Lvx lvx_from

@@ -50,6 +50,8 @@ pub fn run_tool<S: Shelf, T: Sink>(
         Command::Boom(command) => drive(alloc, b"boom", command, shelf, out),
         Command::Boog(command) => drive(alloc, b"boog", &WithLibrary(command), shelf, out),
         Command::Loon(command) => drive(alloc, b"loon", &WithLibrary(command), shelf, out),
+        Command::Ocp(command) => drive(alloc, b"ocp", &WithLibrary(command), shelf, out),
+        Command::Nero(command) => drive(alloc, b"nero", &WithLibrary(command), shelf, out),
         Command::Asimut(task) => run_asimut(alloc, task, shelf, out),
         Command::Cougar(command) => drive(alloc, b"cougar", &WithLibrary(command), shelf, out),
         Command::Lvx(command) => drive(alloc, b"lvx", &WithLibrary(command), shelf, out),

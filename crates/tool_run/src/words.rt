@@ -15,6 +15,8 @@ use flatbeh_run::{FLATBEH_ENTRY, FlatbehCommand};
 use flow_words::{FLOW_ENTRY, GEN_ENTRY};
 use loon_run::{LOON_ENTRY, LoonCommand};
 use lvx_run::{LVX_ENTRY, LvxCommand};
+use nero_run::{NERO_ENTRY, NeroCommand};
+use ocp_run::{OCP_ENTRY, OcpCommand};
 use proof_run::{PROOF_ENTRY, ProofCommand};
 use std::alloc::Global;
 use syf_run::{SYF_ENTRY, SyfCommand};
@@ -28,6 +30,8 @@ pub enum Command {
     Boom(BoomCommand),
     Boog(BoogCommand),
     Loon(LoonCommand),
+    Ocp(OcpCommand),
+    Nero(NeroCommand),
     Asimut(AsimutTask),
     Cougar(CougarCommand),
     Lvx(LvxCommand),
@@ -43,6 +47,8 @@ const ENTRIES: &[Entry] = &[
     BOOM_ENTRY,
     BOOG_ENTRY,
     LOON_ENTRY,
+    OCP_ENTRY,
+    NERO_ENTRY,
     ASIMUT_ENTRY,
     COUGAR_ENTRY,
     LVX_ENTRY,
@@ -74,6 +80,12 @@ fn read_behind(alloc: Global, tool: &[u8], words: &[Text]) -> Result<Command, Wo
     }
     if is_same(b"loon", tool) {
         return Ok(Command::Loon(read_asked(alloc, LOON_ENTRY, words)?));
+    }
+    if is_same(b"ocp", tool) {
+        return Ok(Command::Ocp(read_asked(alloc, OCP_ENTRY, words)?));
+    }
+    if is_same(b"nero", tool) {
+        return Ok(Command::Nero(read_asked(alloc, NERO_ENTRY, words)?));
     }
     if is_same(b"asimut", tool) {
         return Ok(Command::Asimut(read_asked(alloc, ASIMUT_ENTRY, words)?));

@@ -25,6 +25,16 @@ returns-in-Loon-clause-line g c lined =
     subst (λ (k : Command). IsLine (g.T.Sink.seen c.args.out.now) (g.T.Sink.seen c.drive-in-Loon.new.out) (line_of (word_of k) c.drive-in-Loon.result)) (sym c.in-Loon.is)
     (c.drive-in-Loon.ensures.line lined)
 
+pub returns-in-Ocp-clause-line : goal.returns-in-Ocp-clause-line
+returns-in-Ocp-clause-line g c lined =
+    subst (λ (k : Command). IsLine (g.T.Sink.seen c.args.out.now) (g.T.Sink.seen c.drive-in-Ocp.new.out) (line_of (word_of k) c.drive-in-Ocp.result)) (sym c.in-Ocp.is)
+    (c.drive-in-Ocp.ensures.line lined)
+
+pub returns-in-Nero-clause-line : goal.returns-in-Nero-clause-line
+returns-in-Nero-clause-line g c lined =
+    subst (λ (k : Command). IsLine (g.T.Sink.seen c.args.out.now) (g.T.Sink.seen c.drive-in-Nero.new.out) (line_of (word_of k) c.drive-in-Nero.result)) (sym c.in-Nero.is)
+    (c.drive-in-Nero.ensures.line lined)
+
 pub returns-in-Asimut-clause-line : goal.returns-in-Asimut-clause-line
 returns-in-Asimut-clause-line g c lined =
     subst (λ (k : Command). IsLine (g.T.Sink.seen c.args.out.now) (g.T.Sink.seen c.run_asimut.new.out) (line_of (word_of k) c.run_asimut.result)) (sym c.in-Asimut.is)

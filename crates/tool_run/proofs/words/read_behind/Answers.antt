@@ -4,6 +4,8 @@ use Rattle.syf_run.specs.Words.{syf, syf_from}
 use Rattle.boom_run.specs.Words.{boom, boom_from}
 use Rattle.boog_run.specs.Words.{boog, boog_from}
 use Rattle.loon_run.specs.Words.{loon, loon_from}
+use Rattle.ocp_run.specs.Words.{ocp, ocp_from}
+use Rattle.nero_run.specs.Words.{nero, nero_from}
 use Rattle.asimut_run.specs.Words.{asimut, asimut_from}
 use Rattle.cougar_run.specs.Words.{cougar, cougar_from}
 use Rattle.lvx_run.specs.Words.{lvx, lvx_from}
@@ -51,11 +53,23 @@ asimut_tool = tool asimut command.Asimut asimut_from
 abbrev from_asimut : List (Tool Command)
 from_asimut = asimut_tool ∷ from_cougar
 
+abbrev nero_tool : Tool Command
+nero_tool = tool nero command.Nero nero_from
+
+abbrev from_nero : List (Tool Command)
+from_nero = nero_tool ∷ from_asimut
+
+abbrev ocp_tool : Tool Command
+ocp_tool = tool ocp command.Ocp ocp_from
+
+abbrev from_ocp : List (Tool Command)
+from_ocp = ocp_tool ∷ from_nero
+
 abbrev loon_tool : Tool Command
 loon_tool = tool loon command.Loon loon_from
 
 abbrev from_loon : List (Tool Command)
-from_loon = loon_tool ∷ from_asimut
+from_loon = loon_tool ∷ from_ocp
 
 abbrev boog_tool : Tool Command
 boog_tool = tool boog command.Boog boog_from
@@ -110,84 +124,108 @@ returns-then-is_same-3-clause-ok c =
 
 pub returns-in_err-read_asked-4-clause-usage : goal.returns-in_err-read_asked-4-clause-usage
 returns-in_err-read_asked-4-clause-usage c usage =
-    behind c.args.tool.now c.args.words.now (syf_tool ∷ boom_tool ∷ boog_tool ∷ []) loon_tool from_asimut None
+    behind c.args.tool.now c.args.words.now (syf_tool ∷ boom_tool ∷ boog_tool ∷ []) loon_tool from_ocp None
     (sym c.is_same.ensures ∙ c.if-is_same.false, (sym c.is_same-2.ensures ∙ c.if-is_same-2.false, (sym c.is_same-3.ensures ∙ c.if-is_same-3.false, tt)))
     (sym c.is_same-4.ensures ∙ c.if-is_same-4.true) (ap (option_map command.Loon) (c.in_err-read_asked-4.ensures.usage (search rules)))
 
 pub returns-then-is_same-4-clause-ok : goal.returns-then-is_same-4-clause-ok
 returns-then-is_same-4-clause-ok c =
-    behind c.args.tool.now c.args.words.now (syf_tool ∷ boom_tool ∷ boog_tool ∷ []) loon_tool from_asimut
+    behind c.args.tool.now c.args.words.now (syf_tool ∷ boom_tool ∷ boog_tool ∷ []) loon_tool from_ocp
     (Some (command.Loon c.in_ok-read_asked-4.field-0)) (sym c.is_same.ensures ∙ c.if-is_same.false, (sym c.is_same-2.ensures ∙ c.if-is_same-2.false, (sym c.is_same-3.ensures ∙ c.if-is_same-3.false, tt)))
     (sym c.is_same-4.ensures ∙ c.if-is_same-4.true) (ap (option_map command.Loon) c.in_ok-read_asked-4.ensures.ok)
 
 pub returns-in_err-read_asked-5-clause-usage : goal.returns-in_err-read_asked-5-clause-usage
 returns-in_err-read_asked-5-clause-usage c usage =
-    behind c.args.tool.now c.args.words.now (syf_tool ∷ boom_tool ∷ boog_tool ∷ loon_tool ∷ []) asimut_tool from_cougar None
+    behind c.args.tool.now c.args.words.now (syf_tool ∷ boom_tool ∷ boog_tool ∷ loon_tool ∷ []) ocp_tool from_nero None
     (sym c.is_same.ensures ∙ c.if-is_same.false, (sym c.is_same-2.ensures ∙ c.if-is_same-2.false, (sym c.is_same-3.ensures ∙ c.if-is_same-3.false, (sym c.is_same-4.ensures ∙ c.if-is_same-4.false, tt))))
-    (sym c.is_same-5.ensures ∙ c.if-is_same-5.true) (ap (option_map command.Asimut) (c.in_err-read_asked-5.ensures.usage (search rules)))
+    (sym c.is_same-5.ensures ∙ c.if-is_same-5.true) (ap (option_map command.Ocp) (c.in_err-read_asked-5.ensures.usage (search rules)))
 
 pub returns-then-is_same-5-clause-ok : goal.returns-then-is_same-5-clause-ok
 returns-then-is_same-5-clause-ok c =
-    behind c.args.tool.now c.args.words.now (syf_tool ∷ boom_tool ∷ boog_tool ∷ loon_tool ∷ []) asimut_tool from_cougar
-    (Some (command.Asimut c.in_ok-read_asked-5.field-0)) (sym c.is_same.ensures ∙ c.if-is_same.false, (sym c.is_same-2.ensures ∙ c.if-is_same-2.false, (sym c.is_same-3.ensures ∙ c.if-is_same-3.false, (sym c.is_same-4.ensures ∙ c.if-is_same-4.false, tt))))
-    (sym c.is_same-5.ensures ∙ c.if-is_same-5.true) (ap (option_map command.Asimut) c.in_ok-read_asked-5.ensures.ok)
+    behind c.args.tool.now c.args.words.now (syf_tool ∷ boom_tool ∷ boog_tool ∷ loon_tool ∷ []) ocp_tool from_nero
+    (Some (command.Ocp c.in_ok-read_asked-5.field-0)) (sym c.is_same.ensures ∙ c.if-is_same.false, (sym c.is_same-2.ensures ∙ c.if-is_same-2.false, (sym c.is_same-3.ensures ∙ c.if-is_same-3.false, (sym c.is_same-4.ensures ∙ c.if-is_same-4.false, tt))))
+    (sym c.is_same-5.ensures ∙ c.if-is_same-5.true) (ap (option_map command.Ocp) c.in_ok-read_asked-5.ensures.ok)
 
 pub returns-in_err-read_asked-6-clause-usage : goal.returns-in_err-read_asked-6-clause-usage
 returns-in_err-read_asked-6-clause-usage c usage =
-    behind c.args.tool.now c.args.words.now (syf_tool ∷ boom_tool ∷ boog_tool ∷ loon_tool ∷ asimut_tool ∷ []) cougar_tool from_lvx None
+    behind c.args.tool.now c.args.words.now (syf_tool ∷ boom_tool ∷ boog_tool ∷ loon_tool ∷ ocp_tool ∷ []) nero_tool from_asimut None
     (sym c.is_same.ensures ∙ c.if-is_same.false, (sym c.is_same-2.ensures ∙ c.if-is_same-2.false, (sym c.is_same-3.ensures ∙ c.if-is_same-3.false, (sym c.is_same-4.ensures ∙ c.if-is_same-4.false, (sym c.is_same-5.ensures ∙ c.if-is_same-5.false, tt)))))
-    (sym c.is_same-6.ensures ∙ c.if-is_same-6.true) (ap (option_map command.Cougar) (c.in_err-read_asked-6.ensures.usage (search rules)))
+    (sym c.is_same-6.ensures ∙ c.if-is_same-6.true) (ap (option_map command.Nero) (c.in_err-read_asked-6.ensures.usage (search rules)))
 
 pub returns-then-is_same-6-clause-ok : goal.returns-then-is_same-6-clause-ok
 returns-then-is_same-6-clause-ok c =
-    behind c.args.tool.now c.args.words.now (syf_tool ∷ boom_tool ∷ boog_tool ∷ loon_tool ∷ asimut_tool ∷ []) cougar_tool from_lvx
-    (Some (command.Cougar c.in_ok-read_asked-6.field-0)) (sym c.is_same.ensures ∙ c.if-is_same.false, (sym c.is_same-2.ensures ∙ c.if-is_same-2.false, (sym c.is_same-3.ensures ∙ c.if-is_same-3.false, (sym c.is_same-4.ensures ∙ c.if-is_same-4.false, (sym c.is_same-5.ensures ∙ c.if-is_same-5.false, tt)))))
-    (sym c.is_same-6.ensures ∙ c.if-is_same-6.true) (ap (option_map command.Cougar) c.in_ok-read_asked-6.ensures.ok)
+    behind c.args.tool.now c.args.words.now (syf_tool ∷ boom_tool ∷ boog_tool ∷ loon_tool ∷ ocp_tool ∷ []) nero_tool from_asimut
+    (Some (command.Nero c.in_ok-read_asked-6.field-0)) (sym c.is_same.ensures ∙ c.if-is_same.false, (sym c.is_same-2.ensures ∙ c.if-is_same-2.false, (sym c.is_same-3.ensures ∙ c.if-is_same-3.false, (sym c.is_same-4.ensures ∙ c.if-is_same-4.false, (sym c.is_same-5.ensures ∙ c.if-is_same-5.false, tt)))))
+    (sym c.is_same-6.ensures ∙ c.if-is_same-6.true) (ap (option_map command.Nero) c.in_ok-read_asked-6.ensures.ok)
 
 pub returns-in_err-read_asked-7-clause-usage : goal.returns-in_err-read_asked-7-clause-usage
 returns-in_err-read_asked-7-clause-usage c usage =
-    behind c.args.tool.now c.args.words.now (syf_tool ∷ boom_tool ∷ boog_tool ∷ loon_tool ∷ asimut_tool ∷ cougar_tool ∷ []) lvx_tool from_druc None
+    behind c.args.tool.now c.args.words.now (syf_tool ∷ boom_tool ∷ boog_tool ∷ loon_tool ∷ ocp_tool ∷ nero_tool ∷ []) asimut_tool from_cougar None
     (sym c.is_same.ensures ∙ c.if-is_same.false, (sym c.is_same-2.ensures ∙ c.if-is_same-2.false, (sym c.is_same-3.ensures ∙ c.if-is_same-3.false, (sym c.is_same-4.ensures ∙ c.if-is_same-4.false, (sym c.is_same-5.ensures ∙ c.if-is_same-5.false, (sym c.is_same-6.ensures ∙ c.if-is_same-6.false, tt))))))
-    (sym c.is_same-7.ensures ∙ c.if-is_same-7.true) (ap (option_map command.Lvx) (c.in_err-read_asked-7.ensures.usage (search rules)))
+    (sym c.is_same-7.ensures ∙ c.if-is_same-7.true) (ap (option_map command.Asimut) (c.in_err-read_asked-7.ensures.usage (search rules)))
 
 pub returns-then-is_same-7-clause-ok : goal.returns-then-is_same-7-clause-ok
 returns-then-is_same-7-clause-ok c =
-    behind c.args.tool.now c.args.words.now (syf_tool ∷ boom_tool ∷ boog_tool ∷ loon_tool ∷ asimut_tool ∷ cougar_tool ∷ []) lvx_tool from_druc
-    (Some (command.Lvx c.in_ok-read_asked-7.field-0)) (sym c.is_same.ensures ∙ c.if-is_same.false, (sym c.is_same-2.ensures ∙ c.if-is_same-2.false, (sym c.is_same-3.ensures ∙ c.if-is_same-3.false, (sym c.is_same-4.ensures ∙ c.if-is_same-4.false, (sym c.is_same-5.ensures ∙ c.if-is_same-5.false, (sym c.is_same-6.ensures ∙ c.if-is_same-6.false, tt))))))
-    (sym c.is_same-7.ensures ∙ c.if-is_same-7.true) (ap (option_map command.Lvx) c.in_ok-read_asked-7.ensures.ok)
+    behind c.args.tool.now c.args.words.now (syf_tool ∷ boom_tool ∷ boog_tool ∷ loon_tool ∷ ocp_tool ∷ nero_tool ∷ []) asimut_tool from_cougar
+    (Some (command.Asimut c.in_ok-read_asked-7.field-0)) (sym c.is_same.ensures ∙ c.if-is_same.false, (sym c.is_same-2.ensures ∙ c.if-is_same-2.false, (sym c.is_same-3.ensures ∙ c.if-is_same-3.false, (sym c.is_same-4.ensures ∙ c.if-is_same-4.false, (sym c.is_same-5.ensures ∙ c.if-is_same-5.false, (sym c.is_same-6.ensures ∙ c.if-is_same-6.false, tt))))))
+    (sym c.is_same-7.ensures ∙ c.if-is_same-7.true) (ap (option_map command.Asimut) c.in_ok-read_asked-7.ensures.ok)
 
 pub returns-in_err-read_asked-8-clause-usage : goal.returns-in_err-read_asked-8-clause-usage
 returns-in_err-read_asked-8-clause-usage c usage =
-    behind c.args.tool.now c.args.words.now (syf_tool ∷ boom_tool ∷ boog_tool ∷ loon_tool ∷ asimut_tool ∷ cougar_tool ∷ lvx_tool ∷ []) druc_tool from_proof None
+    behind c.args.tool.now c.args.words.now (syf_tool ∷ boom_tool ∷ boog_tool ∷ loon_tool ∷ ocp_tool ∷ nero_tool ∷ asimut_tool ∷ []) cougar_tool from_lvx None
     (sym c.is_same.ensures ∙ c.if-is_same.false, (sym c.is_same-2.ensures ∙ c.if-is_same-2.false, (sym c.is_same-3.ensures ∙ c.if-is_same-3.false, (sym c.is_same-4.ensures ∙ c.if-is_same-4.false, (sym c.is_same-5.ensures ∙ c.if-is_same-5.false, (sym c.is_same-6.ensures ∙ c.if-is_same-6.false, (sym c.is_same-7.ensures ∙ c.if-is_same-7.false, tt)))))))
-    (sym c.is_same-8.ensures ∙ c.if-is_same-8.true) (ap (option_map command.Druc) (c.in_err-read_asked-8.ensures.usage (search rules)))
+    (sym c.is_same-8.ensures ∙ c.if-is_same-8.true) (ap (option_map command.Cougar) (c.in_err-read_asked-8.ensures.usage (search rules)))
 
 pub returns-then-is_same-8-clause-ok : goal.returns-then-is_same-8-clause-ok
 returns-then-is_same-8-clause-ok c =
-    behind c.args.tool.now c.args.words.now (syf_tool ∷ boom_tool ∷ boog_tool ∷ loon_tool ∷ asimut_tool ∷ cougar_tool ∷ lvx_tool ∷ []) druc_tool from_proof
-    (Some (command.Druc c.in_ok-read_asked-8.field-0)) (sym c.is_same.ensures ∙ c.if-is_same.false, (sym c.is_same-2.ensures ∙ c.if-is_same-2.false, (sym c.is_same-3.ensures ∙ c.if-is_same-3.false, (sym c.is_same-4.ensures ∙ c.if-is_same-4.false, (sym c.is_same-5.ensures ∙ c.if-is_same-5.false, (sym c.is_same-6.ensures ∙ c.if-is_same-6.false, (sym c.is_same-7.ensures ∙ c.if-is_same-7.false, tt)))))))
-    (sym c.is_same-8.ensures ∙ c.if-is_same-8.true) (ap (option_map command.Druc) c.in_ok-read_asked-8.ensures.ok)
+    behind c.args.tool.now c.args.words.now (syf_tool ∷ boom_tool ∷ boog_tool ∷ loon_tool ∷ ocp_tool ∷ nero_tool ∷ asimut_tool ∷ []) cougar_tool from_lvx
+    (Some (command.Cougar c.in_ok-read_asked-8.field-0)) (sym c.is_same.ensures ∙ c.if-is_same.false, (sym c.is_same-2.ensures ∙ c.if-is_same-2.false, (sym c.is_same-3.ensures ∙ c.if-is_same-3.false, (sym c.is_same-4.ensures ∙ c.if-is_same-4.false, (sym c.is_same-5.ensures ∙ c.if-is_same-5.false, (sym c.is_same-6.ensures ∙ c.if-is_same-6.false, (sym c.is_same-7.ensures ∙ c.if-is_same-7.false, tt)))))))
+    (sym c.is_same-8.ensures ∙ c.if-is_same-8.true) (ap (option_map command.Cougar) c.in_ok-read_asked-8.ensures.ok)
 
 pub returns-in_err-read_asked-9-clause-usage : goal.returns-in_err-read_asked-9-clause-usage
 returns-in_err-read_asked-9-clause-usage c usage =
-    behind c.args.tool.now c.args.words.now (syf_tool ∷ boom_tool ∷ boog_tool ∷ loon_tool ∷ asimut_tool ∷ cougar_tool ∷ lvx_tool ∷ druc_tool ∷ []) proof_tool from_flatbeh None
+    behind c.args.tool.now c.args.words.now (syf_tool ∷ boom_tool ∷ boog_tool ∷ loon_tool ∷ ocp_tool ∷ nero_tool ∷ asimut_tool ∷ cougar_tool ∷ []) lvx_tool from_druc None
     (sym c.is_same.ensures ∙ c.if-is_same.false, (sym c.is_same-2.ensures ∙ c.if-is_same-2.false, (sym c.is_same-3.ensures ∙ c.if-is_same-3.false, (sym c.is_same-4.ensures ∙ c.if-is_same-4.false, (sym c.is_same-5.ensures ∙ c.if-is_same-5.false, (sym c.is_same-6.ensures ∙ c.if-is_same-6.false, (sym c.is_same-7.ensures ∙ c.if-is_same-7.false, (sym c.is_same-8.ensures ∙ c.if-is_same-8.false, tt))))))))
-    (sym c.is_same-9.ensures ∙ c.if-is_same-9.true) (ap (option_map command.Proof) (c.in_err-read_asked-9.ensures.usage (search rules)))
+    (sym c.is_same-9.ensures ∙ c.if-is_same-9.true) (ap (option_map command.Lvx) (c.in_err-read_asked-9.ensures.usage (search rules)))
 
 pub returns-then-is_same-9-clause-ok : goal.returns-then-is_same-9-clause-ok
 returns-then-is_same-9-clause-ok c =
-    behind c.args.tool.now c.args.words.now (syf_tool ∷ boom_tool ∷ boog_tool ∷ loon_tool ∷ asimut_tool ∷ cougar_tool ∷ lvx_tool ∷ druc_tool ∷ []) proof_tool from_flatbeh
-    (Some (command.Proof c.in_ok-read_asked-9.field-0)) (sym c.is_same.ensures ∙ c.if-is_same.false, (sym c.is_same-2.ensures ∙ c.if-is_same-2.false, (sym c.is_same-3.ensures ∙ c.if-is_same-3.false, (sym c.is_same-4.ensures ∙ c.if-is_same-4.false, (sym c.is_same-5.ensures ∙ c.if-is_same-5.false, (sym c.is_same-6.ensures ∙ c.if-is_same-6.false, (sym c.is_same-7.ensures ∙ c.if-is_same-7.false, (sym c.is_same-8.ensures ∙ c.if-is_same-8.false, tt))))))))
-    (sym c.is_same-9.ensures ∙ c.if-is_same-9.true) (ap (option_map command.Proof) c.in_ok-read_asked-9.ensures.ok)
+    behind c.args.tool.now c.args.words.now (syf_tool ∷ boom_tool ∷ boog_tool ∷ loon_tool ∷ ocp_tool ∷ nero_tool ∷ asimut_tool ∷ cougar_tool ∷ []) lvx_tool from_druc
+    (Some (command.Lvx c.in_ok-read_asked-9.field-0)) (sym c.is_same.ensures ∙ c.if-is_same.false, (sym c.is_same-2.ensures ∙ c.if-is_same-2.false, (sym c.is_same-3.ensures ∙ c.if-is_same-3.false, (sym c.is_same-4.ensures ∙ c.if-is_same-4.false, (sym c.is_same-5.ensures ∙ c.if-is_same-5.false, (sym c.is_same-6.ensures ∙ c.if-is_same-6.false, (sym c.is_same-7.ensures ∙ c.if-is_same-7.false, (sym c.is_same-8.ensures ∙ c.if-is_same-8.false, tt))))))))
+    (sym c.is_same-9.ensures ∙ c.if-is_same-9.true) (ap (option_map command.Lvx) c.in_ok-read_asked-9.ensures.ok)
 
 pub returns-in_err-read_asked-10-clause-usage : goal.returns-in_err-read_asked-10-clause-usage
 returns-in_err-read_asked-10-clause-usage c usage =
-    behind c.args.tool.now c.args.words.now (syf_tool ∷ boom_tool ∷ boog_tool ∷ loon_tool ∷ asimut_tool ∷ cougar_tool ∷ lvx_tool ∷ druc_tool ∷ proof_tool ∷ []) flatbeh_tool [] None
+    behind c.args.tool.now c.args.words.now (syf_tool ∷ boom_tool ∷ boog_tool ∷ loon_tool ∷ ocp_tool ∷ nero_tool ∷ asimut_tool ∷ cougar_tool ∷ lvx_tool ∷ []) druc_tool from_proof None
     (sym c.is_same.ensures ∙ c.if-is_same.false, (sym c.is_same-2.ensures ∙ c.if-is_same-2.false, (sym c.is_same-3.ensures ∙ c.if-is_same-3.false, (sym c.is_same-4.ensures ∙ c.if-is_same-4.false, (sym c.is_same-5.ensures ∙ c.if-is_same-5.false, (sym c.is_same-6.ensures ∙ c.if-is_same-6.false, (sym c.is_same-7.ensures ∙ c.if-is_same-7.false, (sym c.is_same-8.ensures ∙ c.if-is_same-8.false, (sym c.is_same-9.ensures ∙ c.if-is_same-9.false, tt)))))))))
-    (sym c.is_same-10.ensures ∙ c.if-is_same-10.true) (ap (option_map command.Flatbeh) (c.in_err-read_asked-10.ensures.usage (search rules)))
+    (sym c.is_same-10.ensures ∙ c.if-is_same-10.true) (ap (option_map command.Druc) (c.in_err-read_asked-10.ensures.usage (search rules)))
 
 pub returns-then-is_same-10-clause-ok : goal.returns-then-is_same-10-clause-ok
 returns-then-is_same-10-clause-ok c =
-    behind c.args.tool.now c.args.words.now (syf_tool ∷ boom_tool ∷ boog_tool ∷ loon_tool ∷ asimut_tool ∷ cougar_tool ∷ lvx_tool ∷ druc_tool ∷ proof_tool ∷ []) flatbeh_tool []
-    (Some (command.Flatbeh c.in_ok-read_asked-10.field-0)) (sym c.is_same.ensures ∙ c.if-is_same.false, (sym c.is_same-2.ensures ∙ c.if-is_same-2.false, (sym c.is_same-3.ensures ∙ c.if-is_same-3.false, (sym c.is_same-4.ensures ∙ c.if-is_same-4.false, (sym c.is_same-5.ensures ∙ c.if-is_same-5.false, (sym c.is_same-6.ensures ∙ c.if-is_same-6.false, (sym c.is_same-7.ensures ∙ c.if-is_same-7.false, (sym c.is_same-8.ensures ∙ c.if-is_same-8.false, (sym c.is_same-9.ensures ∙ c.if-is_same-9.false, tt)))))))))
-    (sym c.is_same-10.ensures ∙ c.if-is_same-10.true) (ap (option_map command.Flatbeh) c.in_ok-read_asked-10.ensures.ok)
+    behind c.args.tool.now c.args.words.now (syf_tool ∷ boom_tool ∷ boog_tool ∷ loon_tool ∷ ocp_tool ∷ nero_tool ∷ asimut_tool ∷ cougar_tool ∷ lvx_tool ∷ []) druc_tool from_proof
+    (Some (command.Druc c.in_ok-read_asked-10.field-0)) (sym c.is_same.ensures ∙ c.if-is_same.false, (sym c.is_same-2.ensures ∙ c.if-is_same-2.false, (sym c.is_same-3.ensures ∙ c.if-is_same-3.false, (sym c.is_same-4.ensures ∙ c.if-is_same-4.false, (sym c.is_same-5.ensures ∙ c.if-is_same-5.false, (sym c.is_same-6.ensures ∙ c.if-is_same-6.false, (sym c.is_same-7.ensures ∙ c.if-is_same-7.false, (sym c.is_same-8.ensures ∙ c.if-is_same-8.false, (sym c.is_same-9.ensures ∙ c.if-is_same-9.false, tt)))))))))
+    (sym c.is_same-10.ensures ∙ c.if-is_same-10.true) (ap (option_map command.Druc) c.in_ok-read_asked-10.ensures.ok)
+
+pub returns-in_err-read_asked-11-clause-usage : goal.returns-in_err-read_asked-11-clause-usage
+returns-in_err-read_asked-11-clause-usage c usage =
+    behind c.args.tool.now c.args.words.now (syf_tool ∷ boom_tool ∷ boog_tool ∷ loon_tool ∷ ocp_tool ∷ nero_tool ∷ asimut_tool ∷ cougar_tool ∷ lvx_tool ∷ druc_tool ∷ []) proof_tool from_flatbeh None
+    (sym c.is_same.ensures ∙ c.if-is_same.false, (sym c.is_same-2.ensures ∙ c.if-is_same-2.false, (sym c.is_same-3.ensures ∙ c.if-is_same-3.false, (sym c.is_same-4.ensures ∙ c.if-is_same-4.false, (sym c.is_same-5.ensures ∙ c.if-is_same-5.false, (sym c.is_same-6.ensures ∙ c.if-is_same-6.false, (sym c.is_same-7.ensures ∙ c.if-is_same-7.false, (sym c.is_same-8.ensures ∙ c.if-is_same-8.false, (sym c.is_same-9.ensures ∙ c.if-is_same-9.false, (sym c.is_same-10.ensures ∙ c.if-is_same-10.false, tt))))))))))
+    (sym c.is_same-11.ensures ∙ c.if-is_same-11.true) (ap (option_map command.Proof) (c.in_err-read_asked-11.ensures.usage (search rules)))
+
+pub returns-then-is_same-11-clause-ok : goal.returns-then-is_same-11-clause-ok
+returns-then-is_same-11-clause-ok c =
+    behind c.args.tool.now c.args.words.now (syf_tool ∷ boom_tool ∷ boog_tool ∷ loon_tool ∷ ocp_tool ∷ nero_tool ∷ asimut_tool ∷ cougar_tool ∷ lvx_tool ∷ druc_tool ∷ []) proof_tool from_flatbeh
+    (Some (command.Proof c.in_ok-read_asked-11.field-0)) (sym c.is_same.ensures ∙ c.if-is_same.false, (sym c.is_same-2.ensures ∙ c.if-is_same-2.false, (sym c.is_same-3.ensures ∙ c.if-is_same-3.false, (sym c.is_same-4.ensures ∙ c.if-is_same-4.false, (sym c.is_same-5.ensures ∙ c.if-is_same-5.false, (sym c.is_same-6.ensures ∙ c.if-is_same-6.false, (sym c.is_same-7.ensures ∙ c.if-is_same-7.false, (sym c.is_same-8.ensures ∙ c.if-is_same-8.false, (sym c.is_same-9.ensures ∙ c.if-is_same-9.false, (sym c.is_same-10.ensures ∙ c.if-is_same-10.false, tt))))))))))
+    (sym c.is_same-11.ensures ∙ c.if-is_same-11.true) (ap (option_map command.Proof) c.in_ok-read_asked-11.ensures.ok)
+
+pub returns-in_err-read_asked-12-clause-usage : goal.returns-in_err-read_asked-12-clause-usage
+returns-in_err-read_asked-12-clause-usage c usage =
+    behind c.args.tool.now c.args.words.now (syf_tool ∷ boom_tool ∷ boog_tool ∷ loon_tool ∷ ocp_tool ∷ nero_tool ∷ asimut_tool ∷ cougar_tool ∷ lvx_tool ∷ druc_tool ∷ proof_tool ∷ []) flatbeh_tool [] None
+    (sym c.is_same.ensures ∙ c.if-is_same.false, (sym c.is_same-2.ensures ∙ c.if-is_same-2.false, (sym c.is_same-3.ensures ∙ c.if-is_same-3.false, (sym c.is_same-4.ensures ∙ c.if-is_same-4.false, (sym c.is_same-5.ensures ∙ c.if-is_same-5.false, (sym c.is_same-6.ensures ∙ c.if-is_same-6.false, (sym c.is_same-7.ensures ∙ c.if-is_same-7.false, (sym c.is_same-8.ensures ∙ c.if-is_same-8.false, (sym c.is_same-9.ensures ∙ c.if-is_same-9.false, (sym c.is_same-10.ensures ∙ c.if-is_same-10.false, (sym c.is_same-11.ensures ∙ c.if-is_same-11.false, tt)))))))))))
+    (sym c.is_same-12.ensures ∙ c.if-is_same-12.true) (ap (option_map command.Flatbeh) (c.in_err-read_asked-12.ensures.usage (search rules)))
+
+pub returns-then-is_same-12-clause-ok : goal.returns-then-is_same-12-clause-ok
+returns-then-is_same-12-clause-ok c =
+    behind c.args.tool.now c.args.words.now (syf_tool ∷ boom_tool ∷ boog_tool ∷ loon_tool ∷ ocp_tool ∷ nero_tool ∷ asimut_tool ∷ cougar_tool ∷ lvx_tool ∷ druc_tool ∷ proof_tool ∷ []) flatbeh_tool []
+    (Some (command.Flatbeh c.in_ok-read_asked-12.field-0)) (sym c.is_same.ensures ∙ c.if-is_same.false, (sym c.is_same-2.ensures ∙ c.if-is_same-2.false, (sym c.is_same-3.ensures ∙ c.if-is_same-3.false, (sym c.is_same-4.ensures ∙ c.if-is_same-4.false, (sym c.is_same-5.ensures ∙ c.if-is_same-5.false, (sym c.is_same-6.ensures ∙ c.if-is_same-6.false, (sym c.is_same-7.ensures ∙ c.if-is_same-7.false, (sym c.is_same-8.ensures ∙ c.if-is_same-8.false, (sym c.is_same-9.ensures ∙ c.if-is_same-9.false, (sym c.is_same-10.ensures ∙ c.if-is_same-10.false, (sym c.is_same-11.ensures ∙ c.if-is_same-11.false, tt)))))))))))
+    (sym c.is_same-12.ensures ∙ c.if-is_same-12.true) (ap (option_map command.Flatbeh) c.in_ok-read_asked-12.ensures.ok)

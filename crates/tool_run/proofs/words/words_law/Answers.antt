@@ -4,6 +4,8 @@ use Rattle.syf_run.specs.Words.{syf, syf_from}
 use Rattle.boom_run.specs.Words.{boom, boom_from}
 use Rattle.boog_run.specs.Words.{boog, boog_from}
 use Rattle.loon_run.specs.Words.{loon, loon_from}
+use Rattle.ocp_run.specs.Words.{ocp, ocp_from}
+use Rattle.nero_run.specs.Words.{nero, nero_from}
 use Rattle.asimut_run.specs.Words.{asimut, asimut_from}
 use Rattle.cougar_run.specs.Words.{cougar, cougar_from}
 use Rattle.lvx_run.specs.Words.{lvx, lvx_from}
@@ -24,7 +26,7 @@ asimut_named (task.Netlist c) = refl
 -- the commands of each tool are called by its word
 all_name : AllName word_of tools
 all_name =
-    (named word_of syf command.Syf syf_from (λ c. refl), (named word_of boom command.Boom boom_from (λ c. refl), (named word_of boog command.Boog boog_from (λ c. refl), (named word_of loon command.Loon loon_from (λ c. refl), (named word_of asimut command.Asimut asimut_from asimut_named, (named word_of cougar command.Cougar cougar_from (λ c. refl), (named word_of lvx command.Lvx lvx_from (λ c. refl), (named word_of druc command.Druc druc_from (λ c. refl), (named word_of proof command.Proof proof_from (λ c. refl), (named word_of flatbeh command.Flatbeh flatbeh_from (λ c. refl), tt))))))))))
+    (named word_of syf command.Syf syf_from (λ c. refl), (named word_of boom command.Boom boom_from (λ c. refl), (named word_of boog command.Boog boog_from (λ c. refl), (named word_of loon command.Loon loon_from (λ c. refl), (named word_of ocp command.Ocp ocp_from (λ c. refl), (named word_of nero command.Nero nero_from (λ c. refl), (named word_of asimut command.Asimut asimut_from asimut_named, (named word_of cougar command.Cougar cougar_from (λ c. refl), (named word_of lvx command.Lvx lvx_from (λ c. refl), (named word_of druc command.Druc druc_from (λ c. refl), (named word_of proof command.Proof proof_from (λ c. refl), (named word_of flatbeh command.Flatbeh flatbeh_from (λ c. refl), tt))))))))))))
 
 pub returns : goal.returns
 returns c = tool_first word_of tools all_name

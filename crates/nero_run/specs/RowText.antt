@@ -1,5 +1,5 @@
 -- The text of a layout in rows, and of one in which a net got stuck.
-use Rattle.std.specs.Prelude.{◌≡◌, ◌⊎◌, ℕ, List, None, Some}
+use Rattle.std.specs.Prelude.{◌≡◌, ◌⊎◌, ℕ, List, ◌++◌, codes, None, Some}
 use Rattle.vlsi_base.specs.declared.name.Terminal.{Terminal}
 use Rattle.cell_model.specs.Library.{Library}
 use Rattle.net_core.specs.Netlist.{Netlist}
@@ -16,9 +16,8 @@ use Rattle.nero_nets.specs.Answers.{AreRouted}
 use Rattle.route_draw.specs.Grid.{IsDrawnInGrid, IsMarked}
 use Rattle.tool_drive.specs.declared.status.Status.TheVariants as status
 use Rattle.tool_drive.specs.declared.tool.Refusal.{Refusal}
-use Rattle.flow_run.specs.Drawn.{part_name}
-use Rattle.flow_run.specs.declared.row_layout.NoRoutes.{NoRoutes}
-use Rattle.flow_run.specs.declared.row_layout.NoRoutes.TheVariants as none
+use Rattle.nero_run.specs.declared.row_text.NoRoutes.{NoRoutes}
+use Rattle.nero_run.specs.declared.row_text.NoRoutes.TheVariants as none
 
 -- the placement is drawn with routes, and written; or drawn, marked and written
 pub record IsTextOf (l : Library) (n : Netlist) (p : InRow) (routes : NetRoutes) (bytes : List ℕ) : Type 0 where
@@ -52,6 +51,10 @@ LacksRoutes l n p metals none.Memory = Unit {0}
 LacksRoutes l n p metals (none.NoPath net terminal bytes) = IsStuckText l n p metals net terminal bytes
 
 -- ---- the refusal
+
+-- the file that shows where a net got stuck
+abbrev pub part_name : List ℕ → List ℕ
+part_name out = out ++ codes "_part.ap"
 
 abbrev pub out_of_memory : Refusal
 out_of_memory = record { status = status.Memory; part = None }

@@ -1,0 +1,94 @@
+-- From the refusals of the netlist, of its placement and of routing to the tool's.
+use Rattle.std.proofs.Common.{◌≡◌, ℕ, false, List, [], None, Some, Result, Ok, Err, inl, inr, refl, sym, subst}
+use Rattle.vlsi_base.specs.declared.fault.FaultKind.TheVariants as kind
+use Rattle.vlsi_base.specs.declared.fault.ReadError.{ReadError}
+use Rattle.ap_io.specs.declared.figure.Figure.{Figure}
+use Rattle.ap_io.specs.ApText.{IsApText}
+use Rattle.ap_io.specs.Refusal.{IsApRefusal}
+use Rattle.cell_model.specs.Library.{Library}
+use Rattle.cell_lib.specs.Library.{IsLibraryOf}
+use Rattle.cell_pins.specs.Table.{IsTableOf}
+use Rattle.net_core.specs.declared.pins.ModelPins.{ModelPins}
+use Rattle.net_core.specs.Netlist.{Netlist}
+use Rattle.net_right.specs.View.{IsSeenAs}
+use Rattle.ocp_place.specs.Placed.{InRow}
+use Rattle.ocp_place.proofs.Classes.{known, known_seen}
+use Rattle.ocp_figure.specs.Answers.{HasNoPlacement}
+use Rattle.tool_drive.specs.declared.status.Status.{Status}
+use Rattle.tool_drive.specs.declared.status.Status.TheVariants as status
+use Rattle.tool_drive.specs.declared.tool.Product.{Product}
+use Rattle.tool_drive.specs.declared.tool.Refusal.{Refusal}
+use Rattle.tool_drive.specs.Table.{IsFair, IsJudged, refusal}
+use Rattle.tool_drive.specs.Refusals.{MemoryOr, OfFile, of_file, memory_then, fair_then, judged, whole_fault}
+use Rattle.ocp_run.specs.Source.{IsNoSource}
+use Rattle.ocp_run.proofs.Refusing.{never}
+use Rattle.nero_run.specs.declared.row_text.NoRoutes.{NoRoutes}
+use Rattle.nero_run.specs.declared.row_text.NoRoutes.TheVariants as none
+use Rattle.nero_run.specs.Asked.{Asked}
+use Rattle.nero_run.specs.RowText.{IsStuckText, LacksRoutes, IsRefusedSo}
+use Rattle.nero_run.specs.Nero.{Texts, NetlistIsRead, IsUnplaced, bad_layout, not_placed, IsOverGrid, IsGiven, IsRoutable, IsLaidOut, IsLeftStuck, no_source, unplaced, large_grid, plain, stuck, Routes}
+
+-- ---- the placement
+
+module _ (file bytes : List ℕ) (l : Library) (n : Netlist) where
+  pub layout_refused : (e : ReadError) (s : Status) → IsApRefusal bytes e → MemoryOr s (OfFile file (λ x. x ≡ e) s) → MemoryOr s (IsUnplaced file bytes l n s)
+  layout_refused e s h k =
+      memory_then s (OfFile file (IsApRefusal bytes) s) (IsUnplaced file bytes l n s) (λ o. bad_layout o) (of_file file (IsApRefusal bytes) e h s k)
+
+  pub isnt_placed : (f : Figure) (s : Status) → IsApText bytes f → HasNoPlacement l n f → MemoryOr s (s ≡ whole_fault file kind.NotPlaced [])
+      → MemoryOr s (IsUnplaced file bytes l n s)
+  isnt_placed f s is never k = memory_then s (s ≡ whole_fault file kind.NotPlaced []) (IsUnplaced file bytes l n s) (λ e. not_placed f is never e) k
+
+-- ---- plain refusals
+
+module _ (c : Asked) (t : Texts) (l : Library) (table : List ModelPins) where
+  pub by_source : (s : Status) → IsLibraryOf false t.catal t.cells l → IsTableOf l false table → MemoryOr s (IsNoSource c.source t.source table s)
+      → IsJudged (Routes c t) (Err (refusal s None))
+  by_source s library pins h = judged (Routes c t) (λ x. IsNoSource c.source t.source table x) told s h where
+    told : (s : Status) → IsNoSource c.source t.source table s → IsFair s None (Routes c t (Err (refusal s None)))
+    told status.Memory u = refl
+    told status.Accepted u = never c.source t.source table status.Accepted u (λ x. x) (λ k names e. cc e)
+    told status.Usage u = never c.source t.source table status.Usage u (λ x. x) (λ k names e. cc e)
+    told (status.File cause name) u = never c.source t.source table (status.File cause name) u (λ x. x) (λ k names e. cc e)
+    told s u = plain refl (no_source l table library pins u)
+
+  module _ (n : Netlist) (read : NetlistIsRead t l table n) where
+    none_so : (s : Status) → IsUnplaced c.placed t.placed l n s → (OfFile c.placed (IsApRefusal t.placed) s → ⊥) → (s ≡ whole_fault c.placed kind.NotPlaced [] → ⊥) → ⊥
+    none_so s (bad_layout o) f g = f o
+    none_so s (not_placed x is nowhere e) f g = g e
+
+    pub by_placed : (s : Status) → MemoryOr s (IsUnplaced c.placed t.placed l n s) → IsJudged (Routes c t) (Err (refusal s None))
+    by_placed s h = judged (Routes c t) (λ x. IsUnplaced c.placed t.placed l n x) told s h where
+      told : (s : Status) → IsUnplaced c.placed t.placed l n s → IsFair s None (Routes c t (Err (refusal s None)))
+      told status.Memory u = refl
+      told status.Accepted u = none_so status.Accepted u (λ x. x) (λ e. cc e)
+      told status.Usage u = none_so status.Usage u (λ x. x) (λ e. cc e)
+      told (status.File cause name) u = none_so (status.File cause name) u (λ x. x) (λ e. cc e)
+      told s u = plain refl (unplaced l table n read u)
+
+-- a grid with too many nodes
+pub by_grid : (c : Asked) (t : Texts) (g : IsGiven c t) (s : Status) → IsOverGrid g.l g.n g.placement c.metals s → IsJudged (Routes c t) (Err (refusal s None))
+by_grid c t g s h = fair s (h (known g.n) (known_seen g.n g.placed.placed.drawable.sound)).1 h where
+  fair : (s : Status) {limit : _} → s ≡ status.Limit limit → IsOverGrid g.l g.n g.placement c.metals s → IsJudged (Routes c t) (Err (refusal s None))
+  fair s {limit} e h =
+      subst (λ (x : Status). IsOverGrid g.l g.n g.placement c.metals x → IsJudged (Routes c t) (Err (refusal x None))) (sym e)
+      (λ over. plain refl (large_grid g over)) h
+
+-- ---- routes
+
+module _ (c : Asked) (l : Library) (n : Netlist) (p : InRow) where
+  -- the refusal of a placement without whole routes
+  pub stuck_or_memory : (lack : NoRoutes) (r : Refusal) → LacksRoutes l n p c.metals lack → IsRefusedSo c.out lack r → IsFair r.status r.part (IsLeftStuck c l n p r)
+  stuck_or_memory none.Memory r lacks is = subst (λ (x : Refusal). IsFair x.status x.part (IsLeftStuck c l n p x)) (sym is) refl
+  stuck_or_memory (none.NoPath net terminal bytes) r lacks (inl is) = subst (λ (x : Refusal). IsFair x.status x.part (IsLeftStuck c l n p x)) (sym is) refl
+  stuck_or_memory (none.NoPath net terminal bytes) r lacks (inr is) =
+      subst (λ (x : Refusal). IsFair x.status x.part (IsLeftStuck c l n p x)) (sym is)
+      (record { net = net; terminal = terminal; status = refl; bytes = bytes; part = refl; shown = lacks })
+
+-- what routing comes to
+pub by_routes : (c : Asked) (t : Texts) (x : IsRoutable c t) (r : Result Product Refusal)
+    → ((q : Product) → r ≡ Ok q → IsLaidOut c x.given.l x.given.n x.given.placement q)
+    → ((e : Refusal) → r ≡ Err e → IsFair e.status e.part (IsLeftStuck c x.given.l x.given.n x.given.placement e)) → IsJudged (Routes c t) r
+by_routes c t x (Ok q) good bad = record { routable = x; laid = good q refl }
+by_routes c t x (Err e) good bad =
+    fair_then e.status e.part (IsLeftStuck c x.given.l x.given.n x.given.placement e) (Routes c t (Err e)) (λ s. stuck x s) (bad e refl)

@@ -1,0 +1,15 @@
+//! `nero` as a tool: the layout of a placed netlist, with routes of its nets over the rows.
+//!
+//! What it reads and answers stands in `specs/Nero.antt`; when each status comes and what it leaves, for all tools, in
+//! `specs/Table.antt` of `tool_drive`. The text of a layout in rows, and that of one in which a net got stuck, stand here for `flow` too.
+#![tactic(auto)]
+
+mod laws;
+mod nero;
+mod placed;
+mod row_text;
+mod words;
+
+pub use laws::row_text_law;
+pub use row_text::{NoRoutes, refusal, row_text};
+pub use words::{NERO_ENTRY, NeroCommand};

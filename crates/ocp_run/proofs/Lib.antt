@@ -1,0 +1,4 @@
+mod Ports
+mod Cells
+mod Reading
+pub mod Refusing

@@ -1,0 +1,5 @@
+pub mod Asked
+pub mod Words
+pub mod Source
+pub mod Ocp
+pub mod Laws
