@@ -18,8 +18,8 @@ pub returns-then-not-are_within : goal.returns-then-not-are_within
 returns-then-not-are_within c = (
   λ t. absurd (search (rules, t)),
   λ h. (let all = each_within c.args.columns.now c.args.rows.now c.bound.result h.1 c.bound.ensures in
-    let said = c.are_within.ensures.1 all in
-    absurd (search (rules, said, c.if-not-are_within.true))),
+      let said = c.are_within.ensures.1 all in
+      absurd (search (rules, said, c.if-not-are_within.true))),
 )
 
 pub returns : goal.returns

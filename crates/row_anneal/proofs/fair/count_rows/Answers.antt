@@ -10,9 +10,9 @@ returns-then-not-count_row-clause-amiss c = λ t.
     let amiss = c.if-not-count_row.ensures.amiss (search rules) in
     let long = c.loop-row.auto.counts in
     let more : (d : ℕ) → slice_index c.loop-row.counts d + times_in c.deref.result.now d ≤ slice_index c.args.counts.now d + times (map items c.args.rows.now) d = λ d.
-        (let a = times_at c.args.rows.now c.loop-row.row-index c.row-item.result d c.loop-row-test.true c.row-item.is in
-        let b = c.loop-row.invariant d in
-        let e = ap (λ (row : List ℕ). times_in row d) c.deref.ensures.value in
-        omega (arith, a, b, e)) in
+    (let a = times_at c.args.rows.now c.loop-row.row-index c.row-item.result d c.loop-row-test.true c.row-item.is in
+    let b = c.loop-row.invariant d in
+    let e = ap (λ (row : List ℕ). times_in row d) c.deref.ensures.value in
+    omega (arith, a, b, e)) in
     still_amiss (length c.args.counts.now) (λ d. slice_index c.loop-row.counts d + times_in c.deref.result.now d) (λ d. slice_index c.args.counts.now d + times (map items c.args.rows.now) d)
     more (subst (λ (n : ℕ). IsAmiss n (λ d. slice_index c.loop-row.counts d + times_in c.deref.result.now d)) long amiss)
