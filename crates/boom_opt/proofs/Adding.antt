@@ -1,5 +1,5 @@
 -- One more root of the second machine.
-use Rattle.std.proofs.Common.{◌≡◌, ◌⊎◌, inl, inr, ℕ, ◌+◌, ◌-◌, ◌*◌, ◌^◌, ◌<◌, ◌≤◌, min, true, false, List, [], ◌∷◌, ◌++◌, sym, subst, ◌∙◌, arith}
+use Rattle.std.proofs.Common.{length, ◌≡◌, ◌⊎◌, inl, inr, ℕ, ◌+◌, ◌-◌, ◌*◌, ◌^◌, ◌<◌, ◌≤◌, min, true, false, List, [], ◌∷◌, ◌++◌, sym, subst, ◌∙◌, arith}
 use Rattle.std.specs.Prelude.{sum, Result, Ok, Err, OnOk}
 use Rattle.std.specs.List.{Contains}
 use Rattle.bdd_core.specs.declared.node.NodeId.{NodeId}
@@ -60,6 +60,12 @@ found_least m e budget d t u new g whole r h count =
     let room = h.room in
     omega (arith, most, room)
 
+-- something was found at no more nodes than the diagram has
+pub found_within : (m : Machine) (e : Expression) (budget : ℕ) (d : RootDiagram) (t u : Muxes) (new : List (NodeId × Literal)) (g : ℕ) → IsWhole d.diagrams.table
+    → IsRootDiagram m e budget d → HasFound d d.root t u [] new → IsCountOf (list_of m e ∷ []) g → length new ≤ g
+found_within m e budget d t u new g whole r h count =
+    known_within d (list_of m e) new g whole h.said.once h.said.node h.said.uneven (h.parts (list_of m e) (none_within d (list_of m e)) (root_within m e budget d r)) count
+
 pub found_less : (m : Machine) (e : Expression) (budget : ℕ) (d : RootDiagram) (t u : Muxes) (new : List (NodeId × Literal)) (g : ℕ) → IsWhole d.diagrams.table
     → IsRootDiagram m e budget d → (h : HasFound d d.root t u [] new) → IsBeyond u d (list_of m e) new → IsCountOf (list_of m e ∷ []) g → h.count + 1 ≤ g
 found_less m e budget d t u new g whole r h b count =
@@ -72,10 +78,10 @@ found_less m e budget d t u new g whole r h b count =
 
 pub rebuilt_next : (m : Machine) (before : List Root) (r : Root) (b c : Rebuilt) (nodes n : ℕ) → IsRebuilt m before b → IsDcount m r nodes
     → ((nodes ≤ b.nodes) × (c.nodes ≡ b.nodes)) ⊎ ((b.nodes < nodes) × (c.nodes ≡ nodes))
-    → IsTable c.muxes → HasGrownBy n b.muxes c.muxes → ((g : ℕ) → IsDag m r g → n ≤ g)
+    → IsTable c.muxes → HasGrownBy n b.muxes c.muxes → ((g : ℕ) → IsDag m r g → n ≤ g) → ((g : ℕ) → IsDag m r g → c.diagram_nodes ≤ b.diagram_nodes + g)
     → (c.is_large ≡ true → (b.is_large ≡ true) ⊎ ((c.muxes.given ≤ c.muxes.weight + 4) × ((g : ℕ) → IsDag m r g → n + 1 ≤ g)))
     → (c.is_large ≡ false → IsPlanOf m (before ++ r ∷ []) c.muxes c.plan) → IsRebuilt m (before ++ r ∷ []) c
-rebuilt_next m before r b c nodes n h count greater table g most large planned = with_dag (dag_of (list_of m r.expr)) where
+rebuilt_next m before r b c nodes n h count greater table g most several large planned = with_dag (dag_of (list_of m r.expr)) where
   with_dag : ((k : ℕ) × IsCountOf (list_of m r.expr ∷ []) k) → IsRebuilt m (before ++ r ∷ []) c
   with_dag dag = record {
     table = table;
@@ -89,6 +95,7 @@ rebuilt_next m before r b c nodes n h count greater table g most large planned =
     ];
     dags = h.dags ++ dag.0 ∷ [];
     each_dag = zip_push (IsDag m) before h.dags r dag.0 h.each_dag dag.1;
+    several = (let s = sums in let a = h.several in let d = several dag.0 dag.1 in omega (arith, s, a, d));
     weight = weight;
     large = λ e. given_within (large e);
     planned = planned;
@@ -128,19 +135,19 @@ on_ok (Err e) h f = tt
 
 -- the machine was given up before
 pub rebuilt_still : (m : Machine) (before : List Root) (r : Root) (b c : Rebuilt) (nodes : ℕ) → IsRebuilt m before b → IsDcount m r nodes
-    → ((nodes ≤ b.nodes) × (c.nodes ≡ b.nodes)) ⊎ ((b.nodes < nodes) × (c.nodes ≡ nodes)) → c.muxes ≡ b.muxes → b.is_large ≡ true → c.is_large ≡ b.is_large → IsRebuilt m (before ++ r ∷ []) c
-rebuilt_still m before r b c nodes h count greater same large is =
-    rebuilt_next m before r b c nodes 0 h count greater (subst IsTable (sym same) h.table) (subst (λ (t : Muxes). HasGrownBy 0 b.muxes t) (sym same) (grown_none b.muxes)) (λ g q. omega arith)
+    → ((nodes ≤ b.nodes) × (c.nodes ≡ b.nodes)) ⊎ ((b.nodes < nodes) × (c.nodes ≡ nodes)) → c.muxes ≡ b.muxes → b.is_large ≡ true → c.is_large ≡ b.is_large → c.diagram_nodes ≡ b.diagram_nodes → IsRebuilt m (before ++ r ∷ []) c
+rebuilt_still m before r b c nodes h count greater same large is several =
+    rebuilt_next m before r b c nodes 0 h count greater (subst IsTable (sym same) h.table) (subst (λ (t : Muxes). HasGrownBy 0 b.muxes t) (sym same) (grown_none b.muxes)) (λ g q. omega arith) (λ g q. omega (arith, several))
     (λ e. inl large) (λ e. absurd (let no : true ≡ false = sym large ∙ sym is ∙ e in cc no))
 
 -- it is given up now
 pub rebuilt_large : (m : Machine) (before : List Root) (r : Root) (b c : Rebuilt) (nodes budget : ℕ) (d : RootDiagram) (known new : List (NodeId × Literal)) → known ≡ [] → IsRebuilt m before b
     → IsDcount m r nodes → ((nodes ≤ b.nodes) × (c.nodes ≡ b.nodes)) ⊎ ((b.nodes < nodes) × (c.nodes ≡ nodes)) → IsWhole d.diagrams.table → IsRootDiagram m r.expr budget d
-    → IsFound d d.root b.muxes c.muxes known new (Err Large) → c.is_large ≡ true → IsRebuilt m (before ++ r ∷ []) c
-rebuilt_large m before r b c nodes budget d known new empty h count greater whole diagram found large =
+    → IsFound d d.root b.muxes c.muxes known new (Err Large) → c.is_large ≡ true → c.diagram_nodes ≡ b.diagram_nodes → IsRebuilt m (before ++ r ∷ []) c
+rebuilt_large m before r b c nodes budget d known new empty h count greater whole diagram found large several =
     let f : HasFound d d.root b.muxes c.muxes [] new = subst (λ (k : List (NodeId × Literal)). HasFound d d.root b.muxes c.muxes k new) empty found.0 in
     let beyond = found.1 (list_of m r.expr) (root_within m r.expr budget d diagram) in
-    rebuilt_next m before r b c nodes f.count h count greater f.table f.grown (λ g q. found_least m r.expr budget d b.muxes c.muxes new g whole diagram f q)
+    rebuilt_next m before r b c nodes f.count h count greater f.table f.grown (λ g q. found_least m r.expr budget d b.muxes c.muxes new g whole diagram f q) (λ g q. omega (arith, several))
     (λ e. inr (beyond.heavy, λ g q. found_less m r.expr budget d b.muxes c.muxes new g whole diagram f beyond q)) (λ e. absurd (let no : true ≡ false = sym large ∙ e in cc no))
 
 -- the root has its literal
@@ -148,11 +155,13 @@ pub rebuilt_found : (m : Machine) (before : List Root) (root : RootExpr) (b c : 
     → known ≡ [] → IsRebuilt m before b → IsNext m before root → IsRootOf m root → EachReadsBelow (held_count m) m.equations
     → IsDcount m (root_view root) nodes → ((nodes ≤ b.nodes) × (c.nodes ≡ b.nodes)) ⊎ ((b.nodes < nodes) × (c.nodes ≡ nodes)) → IsWhole d.diagrams.table → IsRootDiagram m (view root.expr.now) budget d
     → IsFound d d.root b.muxes c.muxes known new (Ok l) → b.is_large ≡ false → c.is_large ≡ b.is_large → held ≡ c.muxes.held → es ≡ m.equations
-    → NotedAt held es (view root.expr.now) l b.plan c.plan root.equation → IsRebuilt m (before ++ root_view root ∷ []) c
-rebuilt_found m before root b c nodes budget d known new l held es empty h next is reads count greater whole diagram found small same held_is es_are noted =
+    → NotedAt held es (view root.expr.now) l b.plan c.plan root.equation → c.diagram_nodes ≤ b.diagram_nodes + length new
+    → IsRebuilt m (before ++ root_view root ∷ []) c
+rebuilt_found m before root b c nodes budget d known new l held es empty h next is reads count greater whole diagram found small same held_is es_are noted more =
     let f : HasFound d d.root b.muxes c.muxes [] new = subst (λ (k : List (NodeId × Literal)). HasFound d d.root b.muxes c.muxes k new) empty found.0 in
     let held_here : c.muxes.held ≡ held_count m = f.grown.held ∙ h.held in
     rebuilt_next m before (root_view root) b c nodes f.count h count greater f.table f.grown (λ g q. found_least m (view root.expr.now) budget d b.muxes c.muxes new g whole diagram f q)
+    (λ g q. let a = found_within m (view root.expr.now) budget d b.muxes c.muxes new g whole diagram f q in omega (arith, a, more))
     (λ e. absurd (let no : true ≡ false = sym e ∙ same ∙ small in cc no))
     (λ e. planned_next m before root b.muxes c.muxes f.count b.plan c.plan l h.held reads is next f.grown (h.planned small)
     (subst (λ (n : ℕ). NotedAt n m.equations (view root.expr.now) l b.plan c.plan root.equation) (held_is ∙ held_here)

@@ -28,9 +28,9 @@ length_replicated : (n : ℕ) → length (replicate {A = Option Literal} n None)
 length_replicated zero = refl
 length_replicated (suc n) = let a = length_replicated n in omega (arith, a)
 
-pub rebuilt_none : (m : Machine) (b : Rebuilt) → IsTable b.muxes → b.muxes.held ≡ held_count m → IsWeight m b.muxes.given → b.muxes.nodes.keys ≡ [] → b.is_large ≡ false → b.nodes ≡ 0
+pub rebuilt_none : (m : Machine) (b : Rebuilt) → IsTable b.muxes → b.muxes.held ≡ held_count m → IsWeight m b.muxes.given → b.muxes.nodes.keys ≡ [] → b.is_large ≡ false → b.nodes ≡ 0 → b.diagram_nodes ≡ 0
     → b.plan.equations.items ≡ replicate (length m.equations) None → b.plan.loads.items ≡ [] → IsRebuilt m [] b
-rebuilt_none m b table held given empty small nodes equations loads = record {
+rebuilt_none m b table held given empty small nodes several equations loads = record {
   table = table;
   held = held;
   given = given;
@@ -39,6 +39,7 @@ rebuilt_none m b table held given empty small nodes equations loads = record {
   nodes = nodes;
   dags = [];
   each_dag = tt;
+  several = (let e = several in omega (arith, e));
   weight = let w = table.weight in let e = ap muxes_weight empty in omega (arith, w, e);
   large = λ e. absurd (let no : true ≡ false = sym e ∙ small in cc no);
   planned = λ e. record {
@@ -138,6 +139,22 @@ kept_small m b o checked h (inr more) built =
         let e = ap muxes_weight empty in
         let g = h.given in
         omega (arith, w, e, g, more)
+
+-- the given machine is within the bound
+pub kept_within : (m : Machine) (b : Rebuilt) (o : Machine) (four : ℕ) → IsChecked m → IsRebuilt m (roots m) b → b.muxes.given ≤ four → four ≤ 4 * b.diagram_nodes → IsBuilt m [] None o
+    → IsOptimised m o
+kept_within m b o four checked h less is built = optimised_same m h.dags (may_be_kept m checked) o built h.each_dag within where
+  within : expressions_size m ≤ 4 * sum h.dags
+  within =
+      let g = h.given in
+      let s = h.several in
+      let few = h.table.few in
+      omega (arith, g, s, few, less, is)
+
+pub kept_within_result : {E : Type 0} (m : Machine) (b : Rebuilt) (r : Result Machine E) (four : ℕ) → IsChecked m → IsRebuilt m (roots m) b → b.muxes.given ≤ four
+    → four ≤ 4 * b.diagram_nodes → IfOk r (λ o. IsBuilt m [] None o) → IfOk r (λ o. IsOptimised m o)
+kept_within_result m b (Ok o) four checked h less is built = kept_within m b o four checked h less is built
+kept_within_result m b (Err e) four checked h less is built = tt
 
 pub greatest_is : (m : Machine) (b : Rebuilt) → IsRebuilt m (roots m) b → IsGreatestDcount m b.nodes
 greatest_is m b h = record { counts = h.counts; each = h.each_count; greatest = h.nodes }

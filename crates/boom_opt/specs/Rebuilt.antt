@@ -69,6 +69,7 @@ pub record IsRebuilt (m : Machine) (before : List Root) (b : Rebuilt) : Type 0 w
   pub nodes : IsGreatest counts b.nodes
   pub dags : List ℕ
   pub each_dag : AllZip (IsDag m) before dags
+  pub several : b.diagram_nodes ≤ sum dags
   pub weight : b.muxes.weight ≤ 4 * sum dags
   pub large : b.is_large ≡ true → expressions_size m ≤ 4 * sum dags
   pub planned : b.is_large ≡ false → IsPlanOf m before b.muxes b.plan

@@ -1,10 +1,12 @@
 //! Machines made smaller by reduced ordered diagrams.
 //!
-//! A machine is made anew, over the nodes of its roots' diagrams, and the smaller one of the two is taken. What the answer is stands
+//! A machine is made anew, over the nodes of its roots' diagrams, and the smaller one of the two is taken, or the given one where it has
+//! fewer gates and is small enough. What the answer is stands
 //! in `specs/Optimised.antt`; why it meets its bounds, in `optimising.rt`.
 #![tactic(auto)]
 
 mod error;
+mod gates;
 mod optimising;
 
 pub use error::BoomError;

@@ -6,11 +6,13 @@
 // alone, and of all other inner signals nothing is read any more. So the second machine weighs, beside its outputs and registers,
 // as much as its choices: at most 4 for each node of each root's diagram.
 //
-// The answer is the smaller one of the two, and the given one where they weigh the same.
+// The answer is the smaller one of the two, and the given one where they weigh the same. A smaller machine may have a larger netlist, since
+// it is made of choices alone and shares less of what the roots have in common. So the given one is also kept where its subject graph
+// has fewer gates, if its expressions are within the bound of inner signals.
 // - Its size is at most the given one.
 // - Its inner signals weigh at most four times the diagrams: of the second machine this was said; and where the given one is kept,
 //   all its expressions together weigh no more than the choices, or than the choices up to the one at which the second machine was
-//   given up, which is a node of a diagram too.
+//   given up, which is a node of a diagram too, or than four times the nodes of the diagrams.
 // - What it says of a name of the given machine, or of what a register loads, is what was given, or weighs 0 where that weighs more.
 //
 // The second machine is given up as soon as it weighs as much as the given one. So the table of choices never holds more than the
@@ -29,6 +31,7 @@ ghost use Rattle.boom_muxes.specs.Building.{IsBuilt};
 ghost use Rattle.boom_opt.specs.Rebuilt.{IsWeight, IsRootOf, IsOverRoot, IsNext, IsRebuilt, HasRebuilt};
 
 use crate::error::BoomError;
+use crate::gates::has_fewer_gates;
 use bdd_core::BddError;
 use bool_expr::size;
 use boom_muxes::{Muxes, Plan, Stop, build, literal_of};
@@ -53,6 +56,8 @@ struct Rebuilt {
     /// It was given up, since it would weigh as much as the given one.
     is_large: bool,
     nodes: u32,
+    /// How many nodes the diagrams of the roots so far have together, each for itself; fewer where it was given up.
+    diagram_nodes: u64,
 }
 
 // What these equations weigh together, or the greatest number of the type where that is less.
@@ -126,6 +131,7 @@ impl Rebuilt {
             plan: Plan::new(alloc, equations)?,
             is_large: false,
             nodes: 0,
+            diagram_nodes: 0,
         })
     }
 
@@ -151,6 +157,8 @@ impl Rebuilt {
         let mut known = IndexMap::new(alloc);
         match literal_of(&mut self.muxes, diagram, &mut known, diagram.root) {
             Ok(literal) => {
+                let found = known.len() as u64;
+                self.diagram_nodes = self.diagram_nodes.saturating_add(found);
                 let equations = m.equations().as_slice();
                 self.plan
                     .note(equations, self.muxes.held as usize, root, literal)
@@ -189,7 +197,8 @@ fn kept(alloc: Global, m: &Machine) -> Result<Machine, AllocError>
     build(alloc, m, &[], None)
 }
 
-// The smaller one of the two machines, and the given one where they weigh the same.
+// The smaller one of the two machines, and the given one where they weigh the same, or where it has fewer gates and its expressions weigh
+// at most four times the diagrams.
 fn smaller(alloc: Global, m: &Machine, made: &Rebuilt) -> Result<Machine, AllocError>
     requires checked { IsChecked m.now }
     requires few { length m.now.vars + length m.now.ports + machine_size m.now < 2 ^ 32 - 1 }
@@ -202,7 +211,13 @@ fn smaller(alloc: Global, m: &Machine, made: &Rebuilt) -> Result<Machine, AllocE
     if made.muxes.weight >= made.muxes.given {
         return kept(alloc, m);
     }
-    build(alloc, m, made.muxes.nodes.as_slice(), Some(&made.plan))
+    let second = build(alloc, m, made.muxes.nodes.as_slice(), Some(&made.plan))?;
+    if made.muxes.given <= made.diagram_nodes.saturating_mul(4)
+        && has_fewer_gates(alloc, m, &second)?
+    {
+        return kept(alloc, m);
+    }
+    Ok(second)
 }
 
 /// A machine that does the same, isn't larger, and whose inner signals weigh at most four times the diagrams of the given one's

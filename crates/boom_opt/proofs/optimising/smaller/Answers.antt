@@ -1,7 +1,7 @@
 use Rattle.std.proofs.Common.{inl, inr, List, length, sym, subst, ap, Some, arith}
 use Rattle.boom_muxes.specs.declared.mux.Mux.{Mux}
-use Rattle.boom_muxes.specs.Building.{MayBeBuilt}
-use Rattle.boom_opt.proofs.Finishing.{may_be_built, few_built, smaller_result, kept_result}
+use Rattle.boom_muxes.specs.Building.{MayBeBuilt, IsBuilt}
+use Rattle.boom_opt.proofs.Finishing.{may_be_built, few_built, smaller, kept_result, kept_within_result}
 use Rattle.boom_opt.proofs.optimising.smaller.Goals as goal
 
 pub returns-then-made : goal.returns-then-made
@@ -21,6 +21,12 @@ build-requires-clause-few c =
     let few = c.requires.few in
     omega (arith, new, keys, few)
 
+pub returns-then-branch : goal.returns-then-branch
+returns-then-branch c =
+    kept_within_result c.args.m.now c.args.made.now c.kept-then-branch.result c.saturating_mul.result c.requires.checked c.requires.made c.if-made-saturating_mul.true
+    (let e = c.saturating_mul.ensures in omega (arith, e)) c.kept-then-branch.ensures
+
 pub returns : goal.returns
 returns c =
-    smaller_result c.args.m.now c.args.made.now c.build.result c.as_slice.result.now c.requires.checked c.requires.made c.if-made.false c.if-made-2.false c.as_slice.ensures.keys c.build.ensures
+    smaller c.args.m.now c.args.made.now c.in_ok-second.second c.requires.checked c.requires.made c.if-made.false c.if-made-2.false
+    (subst (λ (xs : List Mux). IsBuilt c.args.m.now xs (Some c.args.made.now.plan) c.in_ok-second.second) c.as_slice.ensures.keys c.in_ok-second.ensures)

@@ -25,6 +25,6 @@ returns c =
     let many = length-map c.as_slice-equations.result.now equation_view in
     let names = all_names c.args.m.now c.equations.ensures.checked in
     let vars = ap length (c.as_slice.ensures ∙ c.vars.ensures.value) in
-    rebuilt_none c.args.m.now (record { muxes = c.new.result; plan = c.in_ok-new.field-0; is_large = false; nodes = 0 }) c.new.ensures.table
-    (let held = c.new.ensures.held in omega (arith, held, long, many, names, vars)) (c.new.ensures.given ∙ c.given_weight.ensures) c.new.ensures.empty refl refl
+    rebuilt_none c.args.m.now (record { muxes = c.new.result; plan = c.in_ok-new.field-0; is_large = false; nodes = 0; diagram_nodes = 0 }) c.new.ensures.table
+    (let held = c.new.ensures.held in omega (arith, held, long, many, names, vars)) (c.new.ensures.given ∙ c.given_weight.ensures) c.new.ensures.empty refl refl refl
     (c.in_ok-new.ensures.equations ∙ ap (λ (n : ℕ). replicate {A = Option Literal} n None) (sym many ∙ long)) c.in_ok-new.ensures.loads
