@@ -22,8 +22,8 @@ use Rattle.tool_drive.specs.Table.{IsFair, IsJudged, refusal}
 use Rattle.tool_drive.specs.Refusals.{MemoryOr, OfFile, of_file, memory_then, fair_then, judged, whole_fault}
 use Rattle.ocp_run.specs.Source.{IsNoSource}
 use Rattle.ocp_run.proofs.Refusing.{never}
-use Rattle.nero_run.specs.declared.row_text.NoRoutes.{NoRoutes}
-use Rattle.nero_run.specs.declared.row_text.NoRoutes.TheVariants as none
+use Rattle.nero_run.specs.declared.written.NoRoutes.{NoRoutes}
+use Rattle.nero_run.specs.declared.written.NoRoutes.TheVariants as none
 use Rattle.nero_run.specs.Asked.{Asked}
 use Rattle.nero_run.specs.RowText.{IsStuckText, LacksRoutes, IsRefusedSo}
 use Rattle.nero_run.specs.Nero.{Texts, NetlistIsRead, IsUnplaced, bad_layout, not_placed, IsOverGrid, IsGiven, IsRoutable, IsLaidOut, IsLeftStuck, no_source, unplaced, large_grid, plain, stuck, Routes}
