@@ -1,10 +1,10 @@
 -- Rows of cells are read again from where the cells stand: by the row, and from the left to the right.
-use Rattle.std.proofs.Common.{◌≡◌, ℕ, zero, suc, ◌+◌, ◌<◌, ◌≤◌, ◌==◌, ◌⊎◌, inl, inr, Bool, true, false, cond, nat_eq, List, [], ◌∷◌, map, filter, length, flat_map, slice_index, get_or, refl, sym, ap, ap₂, subst, ◌∙◌, arith, eq-eqb, eqb-true, IsPermutation}
+use Rattle.std.proofs.Common.{◌≡◌, ℕ, zero, suc, ◌+◌, ◌<◌, ◌≤◌, ◌==◌, ◌⊎◌, inl, inr, Bool, true, false, cond, nat_eq, List, [], ◌∷◌, map, filter, length, flat_map, slice_index, refl, sym, ap, ap₂, ◌∙◌, arith, eq-eqb, eqb-true, IsPermutation}
 use Rattle.std.specs.List.{All}
 use Rattle.std.specs.List.Sorted.{IsNonDecreasingBy}
-use Rattle.std.proofs.lemmas.Bool.{cond-true, cond-false, cases_lt, eqb-false, ne_eqb}
+use Rattle.std.proofs.lemmas.Bool.{cases_lt, eqb-false, ne_eqb}
 use Rattle.std.proofs.lemmas.List.Elements.{All-head, All-tail}
-use Rattle.std.proofs.lemmas.List.Sorted.{IsPermutation-map, IsPermutation-sym, sum_by-IsPermutation, All-permutation}
+use Rattle.std.proofs.lemmas.List.Sorted.{IsPermutation-map, sum_by-IsPermutation, All-permutation}
 use Rattle.row_meaning.specs.Rows.{row_at, cell_at, x_of, row_of, times_in, times}
 use Rattle.row_meaning.specs.First.{numbers}
 use Rattle.row_meaning.proofs.Counting.{times_yes, times_no, times_rows, stands_once, lead, x_of_at}

@@ -1,5 +1,5 @@
 -- The drawing of a placement tells its rows.
-use Rattle.std.proofs.Common.{◌≡◌, ◌≢◌, ℕ, zero, suc, ◌+◌, ◌-◌, ◌*◌, ◌/◌, ◌<◌, ◌≤◌, false, min, List, [], ◌∷◌, map, length, flat_map, slice_index, Option, refl, sym, ap, ap₂, subst, ◌∙◌, arith, IsPermutation}
+use Rattle.std.proofs.Common.{◌≡◌, ◌≢◌, ℕ, zero, suc, ◌+◌, ◌-◌, ◌*◌, ◌<◌, ◌≤◌, false, min, List, [], ◌∷◌, map, length, flat_map, slice_index, Option, refl, sym, ap, ap₂, subst, ◌∙◌, arith, IsPermutation}
 use Rattle.std.specs.Prelude.{pos, AllPairs}
 use Rattle.std.specs.List.{All}
 use Rattle.std.proofs.lemmas.Int.{ints}
@@ -151,7 +151,9 @@ module _ (l : Library) (n : InMemory) (p : InRow) (placed : IsRowPlacementOf l n
   stand : IsPermutation (standing_rows l false (pos 0) (named_rows ms p.rows)) standing
   stand =
       all_stand l ms w p.rows are.each_once (λ c low. width_at k l placed.passed its_order c low) (by_number begin 0 (length ms)) (by_number row 0 (length ms))
-      (many_by begin 0 (length ms)) (many_by row 0 (length ms)) (λ c low. value_by begin 0 (length ms) c low) (λ c low. value_by row 0 (length ms) c low)
+      (many_by begin 0 (length ms)) (many_by row 0 (length ms))
+      (λ c low. value_by begin 0 (length ms) c low ∙ ap begin (let e : 0 + c ≡ c = omega arith in e))
+      (λ c low. value_by row 0 (length ms) c low ∙ ap row (let e : 0 + c ≡ c = omega arith in e))
 
   pub stand_is : stood_in k p ≡ standing
   stand_is =

@@ -1,5 +1,5 @@
 -- The figure of a netlist in rows without routes is that of routes without a tree.
-use Rattle.std.proofs.Common.{◌≡◌, ℕ, ◌+◌, ◌*◌, List, [], ◌∷◌, ◌++◌, map, length, Option, Some, sym, ap, subst, ◌∙◌, refl, arith}
+use Rattle.std.proofs.Common.{◌≡◌, ℕ, ◌+◌, ◌*◌, List, [], ◌∷◌, ◌++◌, map, length, Some, sym, ap, subst, ◌∙◌, refl, arith}
 use Rattle.std.specs.Prelude.{pos, ◌+ℤ◌, flat_map, slice_get}
 use Rattle.std.proofs.lemmas.List.{append-nil}
 use Rattle.vlsi_base.specs.declared.name.Name.{Name}
@@ -30,9 +30,7 @@ use Rattle.ocp_grid.proofs.Apart.{no_routes, no_wiring, routed}
 use Rattle.route_draw.specs.Pieces.{signal_names}
 use Rattle.route_draw.specs.GridPieces.{bare_lines}
 use Rattle.route_draw.specs.Grid.{AreDrawable, placed_items, IsDrawnInGrid, IsDrawnPlaced}
-use Rattle.route_draw.specs.Law.{PlacedDrawingCanBeWritten}
 use Rattle.route_draw.proofs.Gridded.{bare_are, box_is}
-use Rattle.route_draw.proofs.GridWritten.{grid_written}
 
 no_lines : (f : ℕ → List Item) (ks : List ℕ) → ((k : ℕ) → f k ≡ []) → flat_map f ks ≡ []
 no_lines f [] none = refl
@@ -90,10 +88,10 @@ module _ (l : Library) (n : InMemory) (p : InRow) (placed : IsRowPlacementOf l n
       box k seen = box_is l n p placed bounds x1 y1 x2 y2 k seen
 
     -- the figure is one of routes without a tree
-    drawable : AreDrawable l n p no_routes
+    pub drawable : AreDrawable l n p no_routes
     drawable = record { metals = 6; few = omega arith; trees = λ k seen j low. tt }
 
-    as_grid : RoutesShowNetlist → (f : Figure) → IsDrawnPlaced l n p f → IsDrawnInGrid l n p no_routes f
+    pub as_grid : RoutesShowNetlist → (f : Figure) → IsDrawnPlaced l n p f → IsDrawnInGrid l n p no_routes f
     as_grid show f drawn = record {
       named = drawn.named;
       wiring = no_wiring;
@@ -109,7 +107,3 @@ module _ (l : Library) (n : InMemory) (p : InRow) (placed : IsRowPlacementOf l n
     } where
       lines : (k : AbstractNetlist) → IsSeenAs n k → f.items ≡ maze_items k l (rows_of k p) (stood_in k p) no_wiring
       lines k seen = drawn.lines k seen ∙ sym (bare_items k l (rows_of k p) (stood_in k p))
-
-pub placed_written : PlacementsAreInRows → RoutesKeepNets → RoutesShowNetlist → PlacedDrawingCanBeWritten
-placed_written in_rows keep show l n p f placed named short few ports drawn =
-    grid_written in_rows l n p no_routes f placed (drawable l n p placed in_rows keep) named short few ports (as_grid l n p placed in_rows keep show f drawn)

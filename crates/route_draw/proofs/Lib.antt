@@ -14,3 +14,4 @@ pub mod Gridded
 pub mod Fits
 pub mod GridWritten
 pub mod Bare
+pub mod BareWritten

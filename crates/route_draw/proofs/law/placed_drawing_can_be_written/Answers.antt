@@ -1,4 +1,4 @@
-use Rattle.route_draw.proofs.Bare.{placed_written}
+use Rattle.route_draw.proofs.BareWritten.{placed_written}
 use Rattle.route_draw.proofs.law.placed_drawing_can_be_written.Goals as goal
 
 pub returns : goal.returns
