@@ -1,6 +1,7 @@
 -- The nodes of the grid over the rows of a placement, and how many nets there are.
 use Rattle.std.proofs.Common.{◌≡◌, ℕ, ◌+◌, ◌-◌, ◌*◌, ◌/◌, ◌≤◌, ◌<◌, List, ◌++◌, length, sym, ap, ◌∙◌, subst, arith}
-use Rattle.std.specs.Prelude.{ℤ, codes}
+use Rattle.std.specs.Prelude.{codes}
+use Rattle.std.proofs.lemmas.Nat.{mul-le}
 use Rattle.cell_model.specs.Library.{Library}
 use Rattle.net_core.specs.Netlist.{Netlist}
 use Rattle.net_meaning.specs.Netlist.{AbstractNetlist as Seen}
@@ -29,6 +30,18 @@ module _ (l : Library) (n : Netlist) (p : InRow) (metals many : ℕ)
   many_nodes large k seen =
       let same = is l k (placed.rows k seen) in
       (subst (λ (x : ℕ). 4294967295 ≤ x) same large, ap (λ (x : ℕ). status.Limit (record { which = Size; reached = x })) same)
+
+-- so many nodes are a number of 64 bits
+pub grid_fits : (width pitch high rows metals : ℕ) → width ≤ 70000000000000 → pitch ≡ 500 → high ≡ 10 → rows ≤ 256 → metals ≤ 5
+    → (width / pitch + 1) * (high * rows + 2) * metals ≤ 18446744073709551615
+grid_fits width pitch high rows metals narrow is_pitch is_high few five =
+    let a : width / 500 + 1 ≤ 140000000001 = omega (arith, narrow) in
+    let b : 10 * rows + 2 ≤ 2562 = omega (arith, few) in
+    let ab = mul-le (width / 500 + 1) (10 * rows + 2) 140000000001 2562 a b in
+    let all = mul-le ((width / 500 + 1) * (10 * rows + 2)) metals (140000000001 * 2562) 5 ab five in
+    let fits : (width / 500 + 1) * (10 * rows + 2) * metals ≤ 18446744073709551615 = omega (arith, all) in
+    subst (λ (x : ℕ). (width / x + 1) * (high * rows + 2) * metals ≤ 18446744073709551615) (sym is_pitch)
+    (subst (λ (y : ℕ). (width / 500 + 1) * (y * rows + 2) * metals ≤ 18446744073709551615) (sym is_high) fits)
 
 -- as many nets as a netlist has in memory, that it is seen as
 pub nets_told : (n : Netlist) (k : Seen) (text : List ℕ) → IsSeenAs n k → text ≡ count_line (codes "nets") (n.count - 2) → text ≡ count_line (codes "nets") (net_count k)

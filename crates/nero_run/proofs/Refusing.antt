@@ -1,5 +1,5 @@
 -- From the refusals of the netlist, of its placement and of routing to the tool's.
-use Rattle.std.proofs.Common.{◌≡◌, ℕ, false, List, [], None, Some, Result, Ok, Err, inl, inr, refl, sym, subst}
+use Rattle.std.proofs.Common.{◌≡◌, ℕ, false, List, [], None, Some, Result, Ok, Err, IfOk, IfErr, inl, inr, refl, sym, subst}
 use Rattle.vlsi_base.specs.declared.fault.FaultKind.TheVariants as kind
 use Rattle.vlsi_base.specs.declared.fault.ReadError.{ReadError}
 use Rattle.ap_io.specs.declared.figure.Figure.{Figure}
@@ -86,9 +86,8 @@ module _ (c : Asked) (l : Library) (n : Netlist) (p : InRow) where
       (record { net = net; terminal = terminal; status = refl; bytes = bytes; part = refl; shown = lacks })
 
 -- what routing comes to
-pub by_routes : (c : Asked) (t : Texts) (x : IsRoutable c t) (r : Result Product Refusal)
-    → ((q : Product) → r ≡ Ok q → IsLaidOut c x.given.l x.given.n x.given.placement q)
-    → ((e : Refusal) → r ≡ Err e → IsFair e.status e.part (IsLeftStuck c x.given.l x.given.n x.given.placement e)) → IsJudged (Routes c t) r
-by_routes c t x (Ok q) good bad = record { routable = x; laid = good q refl }
+pub by_routes : (c : Asked) (t : Texts) (x : IsRoutable c t) (r : Result Product Refusal) → IfOk r (λ q. IsLaidOut c x.given.l x.given.n x.given.placement q)
+    → IfErr r (λ e. IsFair e.status e.part (IsLeftStuck c x.given.l x.given.n x.given.placement e)) → IsJudged (Routes c t) r
+by_routes c t x (Ok q) good bad = record { routable = x; laid = good }
 by_routes c t x (Err e) good bad =
-    fair_then e.status e.part (IsLeftStuck c x.given.l x.given.n x.given.placement e) (Routes c t (Err e)) (λ s. stuck x s) (bad e refl)
+    fair_then e.status e.part (IsLeftStuck c x.given.l x.given.n x.given.placement e) (Routes c t (Err e)) (λ s. stuck x s) bad

@@ -1,15 +1,9 @@
-use Rattle.std.proofs.Common.{refl}
-use Rattle.nero_run.proofs.Refusing.{layout_refused, isnt_placed}
+use Rattle.nero_run.proofs.Refusing.{layout_refused}
 use Rattle.nero_run.proofs.placed.read_placement.Goals as goal
 
 pub returns-in-Err-clause-refused : goal.returns-in-Err-clause-refused
 returns-in-Err-clause-refused c =
     layout_refused c.args.file.now c.args.bytes.now c.args.library.now c.args.netlist.now c.in-Err.error c.refused.result c.in-Err.ensures.refused c.refused.ensures
-
-pub returns-in-Err-NotPlaced-clause-refused : goal.returns-in-Err-NotPlaced-clause-refused
-returns-in-Err-NotPlaced-clause-refused c =
-    isnt_placed c.args.file.now c.args.bytes.now c.args.library.now c.args.netlist.now c.in-Ok.figure c.whole_fault.result c.in-Ok.ensures.accepted
-    (c.in-Err-NotPlaced.ensures.refused refl) c.whole_fault.ensures
 
 pub returns-in-Ok-of_figure-clause-placed : goal.returns-in-Ok-of_figure-clause-placed
 returns-in-Ok-of_figure-clause-placed c = record {
