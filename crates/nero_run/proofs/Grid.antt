@@ -1,6 +1,7 @@
 -- The nodes of the grid over the rows of a placement, and how many nets there are.
-use Rattle.std.proofs.Common.{◌≡◌, ℕ, ◌+◌, ◌-◌, ◌*◌, ◌/◌, ◌≤◌, ◌<◌, List, ◌++◌, length, sym, ap, ◌∙◌, subst, arith}
+use Rattle.std.proofs.Common.{◌≡◌, ℕ, ◌+◌, ◌-◌, ◌*◌, ◌/◌, ◌≤◌, ◌<◌, List, map, length, sym, ap, ◌∙◌, subst, arith}
 use Rattle.std.specs.Prelude.{codes}
+use Rattle.std.proofs.lemmas.List.{length-map}
 use Rattle.std.proofs.lemmas.Nat.{mul-le}
 use Rattle.cell_model.specs.Library.{Library}
 use Rattle.net_core.specs.Netlist.{Netlist}
@@ -30,6 +31,13 @@ module _ (l : Library) (n : Netlist) (p : InRow) (metals many : ℕ)
   many_nodes large k seen =
       let same = is l k (placed.rows k seen) in
       (subst (λ (x : ℕ). 4294967295 ≤ x) same large, ap (λ (x : ℕ). status.Limit (record { which = Size; reached = x })) same)
+
+-- as many things as rows are shown
+pub few_shown : {A : Type 0} {f : A → List ℕ} (xs : List A) (rows : List (List ℕ)) → map f xs ≡ rows → length rows ≤ 256 → length xs ≤ 256
+few_shown {A} {f} xs rows is few =
+    let many : length (map f xs) ≤ 256 = subst (λ (r : List (List ℕ)). length r ≤ 256) (sym is) few in
+    let same = length-map xs f in
+    omega (arith, many, same)
 
 -- so many nodes are a number of 64 bits
 pub grid_fits : (width pitch high rows metals : ℕ) → width ≤ 70000000000000 → pitch ≡ 500 → high ≡ 10 → rows ≤ 256 → metals ≤ 5
