@@ -33,8 +33,8 @@ module _ (l : Library) (n : Netlist) (p : InRow) (metals many : ℕ)
       (subst (λ (x : ℕ). 4294967295 ≤ x) same large, ap (λ (x : ℕ). status.Limit (record { which = Size; reached = x })) same)
 
 -- as many things as rows are shown
-pub few_shown : {A : Type 0} {f : A → List ℕ} (xs : List A) (rows : List (List ℕ)) → map f xs ≡ rows → length rows ≤ 256 → length xs ≤ 256
-few_shown {A} {f} xs rows is few =
+pub few_shown : {A : Type 0} (f : A → List ℕ) (xs : List A) (rows : List (List ℕ)) → map f xs ≡ rows → length rows ≤ 256 → length xs ≤ 256
+few_shown f xs rows is few =
     let many : length (map f xs) ≤ 256 = subst (λ (r : List (List ℕ)). length r ≤ 256) (sym is) few in
     let same = length-map xs f in
     omega (arith, many, same)
