@@ -22,10 +22,7 @@ use Rattle.tool_drive.specs.Table.{IsFair, IsJudged, refusal}
 use Rattle.tool_drive.specs.Refusals.{MemoryOr, OfFile, of_file, memory_then, fair_then, judged, whole_fault}
 use Rattle.ocp_run.specs.Source.{IsNoSource}
 use Rattle.ocp_run.proofs.Refusing.{never}
-use Rattle.nero_run.specs.declared.written.NoRoutes.{NoRoutes}
-use Rattle.nero_run.specs.declared.written.NoRoutes.TheVariants as none
 use Rattle.nero_run.specs.Asked.{Asked}
-use Rattle.nero_run.specs.RowText.{IsStuckText, LacksRoutes, IsRefusedSo}
 use Rattle.nero_run.specs.Nero.{Texts, NetlistIsRead, IsUnplaced, bad_layout, not_placed, IsOverGrid, IsGiven, IsRoutable, IsLaidOut, IsLeftStuck, no_source, unplaced, large_grid, plain, stuck, Routes}
 
 -- ---- the placement
@@ -75,15 +72,6 @@ by_grid c t g s h = fair s (h (known g.n) (known_seen g.n g.placed.placed.drawab
       (λ over. plain refl (large_grid g over)) h
 
 -- ---- routes
-
-module _ (c : Asked) (l : Library) (n : Netlist) (p : InRow) where
-  -- the refusal of a placement without whole routes
-  pub stuck_or_memory : (lack : NoRoutes) (r : Refusal) → LacksRoutes l n p c.metals lack → IsRefusedSo c.out lack r → IsFair r.status r.part (IsLeftStuck c l n p r)
-  stuck_or_memory none.Memory r lacks is = subst (λ (x : Refusal). IsFair x.status x.part (IsLeftStuck c l n p x)) (sym is) refl
-  stuck_or_memory (none.NoPath net terminal bytes) r lacks (inl is) = subst (λ (x : Refusal). IsFair x.status x.part (IsLeftStuck c l n p x)) (sym is) refl
-  stuck_or_memory (none.NoPath net terminal bytes) r lacks (inr is) =
-      subst (λ (x : Refusal). IsFair x.status x.part (IsLeftStuck c l n p x)) (sym is)
-      (record { net = net; terminal = terminal; status = refl; bytes = bytes; part = refl; shown = lacks })
 
 -- what routing comes to
 pub by_routes : (c : Asked) (t : Texts) (x : IsRoutable c t) (r : Result Product Refusal) → IfOk r (λ q. IsLaidOut c x.given.l x.given.n x.given.placement q)
