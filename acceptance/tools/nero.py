@@ -276,8 +276,10 @@ def check_chain(results, program):
 
 WIDE_CELL = {
     "lib/CATAL": b"inv_x1 C\n",
-    "lib/inv_x1.vbe": b"entity inv_x1 is port (i : in bit; nq : out bit; vdd : in bit; vss : in bit); end inv_x1;\narchitecture x of inv_x1 is begin\nnq <= not i;\nend x;\n",
-    "lib/inv_x1.ap": b"V ALLIANCE : 6\nH inv_x1,P,01/01/2000,100\nA 0,0,16000,5000\nS 0,300,16000,300,600,vss,RIGHT,CALU1\nS 0,4700,16000,4700,600,vdd,RIGHT,CALU1\n"
+    "lib/inv_x1.vbe": b"entity inv_x1 is port (i : in bit; nq : out bit; vdd : in bit; vss : in bit); end inv_x1;\n"
+    b"architecture x of inv_x1 is begin\nnq <= not i;\nend x;\n",
+    "lib/inv_x1.ap": b"V ALLIANCE : 6\nH inv_x1,P,01/01/2000,100\nA 0,0,16000,5000\n"
+    b"S 0,300,16000,300,600,vss,RIGHT,CALU1\nS 0,4700,16000,4700,600,vdd,RIGHT,CALU1\n"
     b"S 500,1000,500,4000,200,i,UP,CALU1\nS 1000,1000,1000,4000,200,nq,UP,CALU1\nEOF\n",
 }
 

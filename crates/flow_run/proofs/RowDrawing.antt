@@ -40,8 +40,8 @@ use Rattle.flow_run.specs.StuckLayout.{IsStuckLayout}
 use Rattle.flow_run.specs.Drawn.{MayBeDrawn, IsLengthInRows, IsStuckAs}
 use Rattle.tool_drive.specs.declared.tool.Refusal.{Refusal}
 use Rattle.tool_drive.specs.Table.{IsFair}
-use Rattle.nero_run.specs.declared.row_text.NoRoutes.{NoRoutes}
-use Rattle.nero_run.specs.declared.row_text.NoRoutes.TheVariants as none
+use Rattle.nero_run.specs.declared.written.NoRoutes.{NoRoutes}
+use Rattle.nero_run.specs.declared.written.NoRoutes.TheVariants as none
 use Rattle.nero_run.specs.RowText.{IsRoutedText, IsStuckText, LacksRoutes, IsRefusedSo}
 use Rattle.flow_run.proofs.Drawing.{right_for, report_same}
 

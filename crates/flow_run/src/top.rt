@@ -47,10 +47,10 @@ fn run<S: Shelf, T: Sink>(alloc: Global, command: &Command, shelf: &mut S, out: 
 
 /// Does what the words ask, over a shelf and a sink: `flow` lays the source out with the cells of the library, `gen` first makes a
 /// source of a number, `syf` makes a data-flow source of a state machine, `boom` makes the source smaller, `boog` makes a netlist
-/// of these cells, `loon` puts buffers into a netlist and chooses its cells, `asimut` runs patterns on the source, or on the
-/// netlist of the library's cells, `cougar` takes the netlist out of a layout of these cells, `lvx` compares two netlists by name,
-/// `druc` lists where a layout breaks the rules, `proof` compares two sources as functions, and `flatbeh` makes a data-flow source
-/// of a netlist.
+/// of these cells, `loon` puts buffers into a netlist and chooses its cells, `ocp` places a netlist in rows, `nero` routes it over
+/// its placement, `asimut` runs patterns on the source, or on the netlist of the library's cells, `cougar` takes the netlist out of
+/// a layout of these cells, `lvx` compares two netlists by name, `druc` lists where a layout breaks the rules, `proof` compares two
+/// sources as functions, and `flatbeh` makes a data-flow source of a netlist.
 ///
 /// The words are taken apart first, and only then is a file read. A tool reads its files in their order, then writes its file,
 /// if it has one, and then prints its text by one put.
@@ -63,6 +63,9 @@ fn run<S: Shelf, T: Sink>(alloc: Global, command: &Command, shelf: &mut S, out: 
 /// - `boog` reads the same files as `flow`, writes the netlist to NAME.vst and prints how many cells it has.
 /// - `loon` reads the same files as `boog`, with a netlist for SOURCE, writes the new netlist to NAME.vst and prints how many cells it
 ///   has and how many femtoseconds its longest path takes.
+/// - `ocp` reads the same files as `loon`, writes the placement to NAME.ap and prints how long its nets are.
+/// - `nero` reads the same files, with a placement behind SOURCE, writes the layout to NAME.ap and prints how many nets it has; where a
+///   net gets stuck, it writes what stood so far to NAME_part.ap.
 /// - `asimut` reads SOURCE and PATTERNS, for a netlist also CATAL and the behaviour and the layout of each cell that this uses, and
 ///   prints the patterns with every output filled in.
 /// - `cougar` reads the same files as `boog`, with a layout for SOURCE, writes the netlist to NAME.vst and prints how many cells and

@@ -1,5 +1,5 @@
 -- From the refusals of the netlist, of its placement and of routing to the tool's.
-use Rattle.std.proofs.Common.{◌≡◌, ℕ, false, List, [], None, Some, Result, Ok, Err, inl, inr, refl, sym, subst}
+use Rattle.std.proofs.Common.{◌≡◌, ℕ, false, List, [], None, Some, Result, Ok, Err, IfOk, IfErr, inl, inr, refl, sym, subst}
 use Rattle.vlsi_base.specs.declared.fault.FaultKind.TheVariants as kind
 use Rattle.vlsi_base.specs.declared.fault.ReadError.{ReadError}
 use Rattle.ap_io.specs.declared.figure.Figure.{Figure}
@@ -22,10 +22,7 @@ use Rattle.tool_drive.specs.Table.{IsFair, IsJudged, refusal}
 use Rattle.tool_drive.specs.Refusals.{MemoryOr, OfFile, of_file, memory_then, fair_then, judged, whole_fault}
 use Rattle.ocp_run.specs.Source.{IsNoSource}
 use Rattle.ocp_run.proofs.Refusing.{never}
-use Rattle.nero_run.specs.declared.row_text.NoRoutes.{NoRoutes}
-use Rattle.nero_run.specs.declared.row_text.NoRoutes.TheVariants as none
 use Rattle.nero_run.specs.Asked.{Asked}
-use Rattle.nero_run.specs.RowText.{IsStuckText, LacksRoutes, IsRefusedSo}
 use Rattle.nero_run.specs.Nero.{Texts, NetlistIsRead, IsUnplaced, bad_layout, not_placed, IsOverGrid, IsGiven, IsRoutable, IsLaidOut, IsLeftStuck, no_source, unplaced, large_grid, plain, stuck, Routes}
 
 -- ---- the placement
@@ -76,19 +73,9 @@ by_grid c t g s h = fair s (h (known g.n) (known_seen g.n g.placed.placed.drawab
 
 -- ---- routes
 
-module _ (c : Asked) (l : Library) (n : Netlist) (p : InRow) where
-  -- the refusal of a placement without whole routes
-  pub stuck_or_memory : (lack : NoRoutes) (r : Refusal) → LacksRoutes l n p c.metals lack → IsRefusedSo c.out lack r → IsFair r.status r.part (IsLeftStuck c l n p r)
-  stuck_or_memory none.Memory r lacks is = subst (λ (x : Refusal). IsFair x.status x.part (IsLeftStuck c l n p x)) (sym is) refl
-  stuck_or_memory (none.NoPath net terminal bytes) r lacks (inl is) = subst (λ (x : Refusal). IsFair x.status x.part (IsLeftStuck c l n p x)) (sym is) refl
-  stuck_or_memory (none.NoPath net terminal bytes) r lacks (inr is) =
-      subst (λ (x : Refusal). IsFair x.status x.part (IsLeftStuck c l n p x)) (sym is)
-      (record { net = net; terminal = terminal; status = refl; bytes = bytes; part = refl; shown = lacks })
-
 -- what routing comes to
-pub by_routes : (c : Asked) (t : Texts) (x : IsRoutable c t) (r : Result Product Refusal)
-    → ((q : Product) → r ≡ Ok q → IsLaidOut c x.given.l x.given.n x.given.placement q)
-    → ((e : Refusal) → r ≡ Err e → IsFair e.status e.part (IsLeftStuck c x.given.l x.given.n x.given.placement e)) → IsJudged (Routes c t) r
-by_routes c t x (Ok q) good bad = record { routable = x; laid = good q refl }
+pub by_routes : (c : Asked) (t : Texts) (x : IsRoutable c t) (r : Result Product Refusal) → IfOk r (λ q. IsLaidOut c x.given.l x.given.n x.given.placement q)
+    → IfErr r (λ e. IsFair e.status e.part (IsLeftStuck c x.given.l x.given.n x.given.placement e)) → IsJudged (Routes c t) r
+by_routes c t x (Ok q) good bad = record { routable = x; laid = good }
 by_routes c t x (Err e) good bad =
-    fair_then e.status e.part (IsLeftStuck c x.given.l x.given.n x.given.placement e) (Routes c t (Err e)) (λ s. stuck x s) (bad e refl)
+    fair_then e.status e.part (IsLeftStuck c x.given.l x.given.n x.given.placement e) (Routes c t (Err e)) (λ s. stuck x s) bad

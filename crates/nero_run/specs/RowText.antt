@@ -16,8 +16,8 @@ use Rattle.nero_nets.specs.Answers.{AreRouted}
 use Rattle.route_draw.specs.Grid.{IsDrawnInGrid, IsMarked}
 use Rattle.tool_drive.specs.declared.status.Status.TheVariants as status
 use Rattle.tool_drive.specs.declared.tool.Refusal.{Refusal}
-use Rattle.nero_run.specs.declared.row_text.NoRoutes.{NoRoutes}
-use Rattle.nero_run.specs.declared.row_text.NoRoutes.TheVariants as none
+use Rattle.nero_run.specs.declared.written.NoRoutes.{NoRoutes}
+use Rattle.nero_run.specs.declared.written.NoRoutes.TheVariants as none
 
 -- the placement is drawn with routes, and written; or drawn, marked and written
 pub record IsTextOf (l : Library) (n : Netlist) (p : InRow) (routes : NetRoutes) (bytes : List ℕ) : Type 0 where

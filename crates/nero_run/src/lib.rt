@@ -7,9 +7,9 @@
 mod laws;
 mod nero;
 mod placed;
-mod row_text;
 mod words;
+mod written;
 
 pub use laws::row_text_law;
-pub use row_text::{NoRoutes, refusal, row_text};
 pub use words::{NERO_ENTRY, NeroCommand};
+pub use written::{NoRoutes, refusal, row_text};

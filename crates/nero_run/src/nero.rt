@@ -7,8 +7,8 @@ ghost use Rattle.tool_drive.specs.Table.{IsFair, IsJudged};
 ghost use Rattle.nero_run.specs.Nero.{texts, IsLaidOut, IsLeftStuck, Routes};
 
 use crate::placed::{check_nodes, read_placement};
-use crate::row_text::{refusal, row_text};
 use crate::words::NeroCommand;
+use crate::written::{refusal, row_text};
 use cell_checks::Library;
 use cell_lib::LibraryTool;
 use cell_pins::pin_table;
@@ -64,7 +64,13 @@ fn routed(
         Ok(netlist) => netlist,
         Err(status) => return Err(Refusal::plain(status)),
     };
-    let placed = read_placement(alloc, &command.placed, bytes_at(first, 1), &netlist, library);
+    let placed = read_placement(
+        alloc,
+        &command.placed,
+        bytes_at(first, 1),
+        &netlist,
+        library,
+    );
     let placement = match placed {
         Ok(placement) => placement,
         Err(status) => return Err(Refusal::plain(status)),

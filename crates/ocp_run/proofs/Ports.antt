@@ -39,10 +39,11 @@ so_named text p e = subst (λ (n : Name). (bytes_eq n.text text && is_none n.bit
 
 pub among_there : (text : List ℕ) (ports : List Port) → is_among text ports ≡ true → IsThere (map (λ p. p.name) ports) (scalar text)
 among_there text [] h = let never : false ≡ true = h in absurd cc
-among_there text (p ∷ ports) h = by (is_named text p) refl h where
-  by : (b : Bool) → is_named text p ≡ b → (b || is_among text ports) ≡ true → IsThere (map (λ p. p.name) (p ∷ ports)) (scalar text)
-  by true e h = (0, ap (λ (n : Name). Some n) (named_so text p e))
-  by false e h = let t = among_there text ports h in (suc t.0, t.1)
+among_there text (p ∷ ports) h = by (is_named text p) refl (among_there text ports) h where
+  by : (b : Bool) → is_named text p ≡ b → (is_among text ports ≡ true → IsThere (map (λ q. q.name) ports) (scalar text)) → (b || is_among text ports) ≡ true
+      → IsThere (map (λ q. q.name) (p ∷ ports)) (scalar text)
+  by true e more h = (0, ap (λ (n : Name). Some n) (named_so text p e))
+  by false e more h = let t = more h in (suc t.0, t.1)
 
 or_first : (a b : Bool) → a ≡ true → (a || b) ≡ true
 or_first true b h = refl

@@ -31,7 +31,7 @@ pub enum NoRoutes {
 
 impl From<AllocError> for NoRoutes {
     ghost use Rattle.std.specs.Prelude.{◌≡◌};
-    ghost use Rattle.nero_run.specs.declared.row_text.NoRoutes.TheVariants.{Memory};
+    ghost use Rattle.nero_run.specs.declared.written.NoRoutes.TheVariants.{Memory};
 
     ghost from_gives = { λ _ e. e ≡ Memory };
 

@@ -1,7 +1,7 @@
 use Rattle.std.proofs.Common.{subst, arith}
 use Rattle.nero_nets.specs.Answers.{IsRefusal}
 use Rattle.nero_nets.proofs.Routed.{few_columns}
-use Rattle.nero_run.proofs.row_text.row_text.Goals as goal
+use Rattle.nero_run.proofs.written.row_text.Goals as goal
 
 pub whole_text-requires-clause-columns : goal.whole_text-requires-clause-columns
 whole_text-requires-clause-columns c =
