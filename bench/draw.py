@@ -11,9 +11,9 @@ import pathlib
 import sys
 
 sys.path.append(str(pathlib.Path(__file__).resolve().parent.parent))
-from acceptance.meaning.extraction import Flat, instances_of  # noqa: E402
 from acceptance.meaning.layout import label  # noqa: E402
-from acceptance.readers import ap, cellcheck  # noqa: E402
+from share.formats import ap, cellcheck  # noqa: E402
+from share.formats.extraction import Flat, instances_of  # noqa: E402
 
 COLOURS = {1: "#4f7fd0", 2: "#d9534f", 3: "#3d9a50", 4: "#b07cc6", 5: "#c9a227", 6: "#50b5b5"}
 SCALE, LEFT, TOP, RIGHT, BOTTOM = 100, 26, 14, 8, 12

@@ -13,9 +13,9 @@ import pathlib
 import sys
 
 sys.path.append(str(pathlib.Path(__file__).resolve().parent.parent))
-from acceptance.meaning.extraction import Flat, instances_of  # noqa: E402
 from acceptance.meaning.layout import label  # noqa: E402
-from acceptance.readers import ap, cellcheck  # noqa: E402
+from share.formats import ap, cellcheck  # noqa: E402
+from share.formats.extraction import Flat, instances_of  # noqa: E402
 
 MARKS = {1: "=", 2: "-", 3: "|", 4: "4", 5: "5", 6: "6"}
 ACROSS, UP = 125, 500

@@ -1,7 +1,7 @@
 """A second reader of ap files, written from docs/formats/layouts.md. Where this
 was silent, its readings were settled together with those of the program.
 
-`read(bytes)` gives the Figure, or raises Refused. Run as `python3 -m acceptance.readers.ap FILE..` it prints for each file the line that cell_probe has
+`read(bytes)` gives the Figure, or raises Refused. Run as `python3 -m share.formats.ap FILE..` it prints for each file the line that cell_probe has
 to print of it: `ok NAME ITEMS TEXT`, `LINE FAULT` or `limit KIND REACHED`.
 """
 

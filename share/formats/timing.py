@@ -5,8 +5,8 @@ Times are femtoseconds. `cells` gives for each instance's name the cell that it 
 
 import random
 
-from acceptance.readers.models import IN, OUT
-from acceptance.readers.vhdl_reader import SUPPLIES
+from .models import IN, OUT
+from .vhdl_reader import SUPPLIES
 
 FALLS, RISES = ("tphl", "tpll", "taf"), ("tplh", "tphh", "tar")
 

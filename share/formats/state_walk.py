@@ -4,7 +4,7 @@ A body is a list of statements: ("out", bit, formula), ("next", state), ("if", [
 ("case", [(states, body)..], body of the others or None). States are numbers, formulas those of vbe_oracle.py.
 """
 
-from acceptance.readers.vbe_oracle import values
+from .vbe_oracle import values
 
 UNKNOWN = None
 NEXT = "next state"

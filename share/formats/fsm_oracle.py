@@ -3,10 +3,10 @@
 `state_machine(text)` gives the StateMachine of state_walk.py that a text is, or raises Refused with what is wrong with it.
 """
 
-from acceptance.meaning.state_walk import StateMachine
-from acceptance.readers.fsm_reader import pragmas, read
-from acceptance.readers.vbe_oracle import Checks
-from acceptance.readers.vhdl_reader import SUPPLIES, fault, limit, ordered, spelled
+from .fsm_reader import pragmas, read
+from .state_walk import StateMachine
+from .vbe_oracle import Checks
+from .vhdl_reader import SUPPLIES, fault, limit, ordered, spelled
 
 PORTS, STATES, FILE = 4096, 256, 1048576
 

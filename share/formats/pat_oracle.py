@@ -1,13 +1,9 @@
-"""A second reader and runner of pattern files, written by the rules of docs/formats/patterns.md.
-
-`answer(..)` gives the status and the printed text that `alliance asimut` has to come to on two texts.
-"""
+"""A second reader and runner of pattern files, written by the rules of docs/formats/patterns.md."""
 
 import functools
 
-from acceptance.readers.vbe_oracle import FILE, Ring, machine
-from acceptance.readers.vhdl_reader import DIGITS, LETTERS, SUPPLIES, Refused, Scanner, fault, spelled
-from acceptance.tools.answers import refusal
+from .vbe_oracle import machine
+from .vhdl_reader import DIGITS, LETTERS, SUPPLIES, Refused, Scanner, fault, spelled
 
 MEANT = ("in", "out", "begin", "end")
 UNITS = {"fs": 1, "ps": 10**3, "ns": 10**6, "us": 10**9, "ms": 10**12}
@@ -264,23 +260,3 @@ def simulate(m, columns, patterns):
 
 # The machine of a text is asked for again for other patterns.
 machine_of = functools.lru_cache(maxsize=16)(machine)
-
-
-def answer(source_name, source, patterns_name, patterns):
-    """(status, printed text), or (2, Ring) where any of some rings may be named."""
-    if len(source) > FILE or len(patterns) > FILE:
-        return refusal("asimut", None, f"limit file {FILE + 1}")
-    try:
-        m = machine_of(source)
-    except Ring as ring:
-        return 2, ring
-    except Refused as refused:
-        return refusal("asimut", source_name, str(refused))
-    try:
-        columns, items = PatternReader(patterns).file()
-        check(columns, items, m.ports)
-        return 0, simulate(m, columns, items)
-    except Refused as refused:
-        return refusal("asimut", patterns_name, str(refused))
-    except Differs as differs:
-        return 11, f"asimut: differs {differs}\n"

@@ -6,11 +6,11 @@ raises Refusal with the status and the line behind a tool's word.
 
 import functools
 import itertools
+import os
 
-from acceptance.readers import ap, cellcheck
-from acceptance.readers.vbe_oracle import reads
-from acceptance.readers.vhdl_reader import SUPPLIES
-from acceptance.readers.words import of_folder
+from . import ap, cellcheck
+from .vbe_oracle import reads
+from .vhdl_reader import SUPPLIES
 
 KINDS = ("inv", "nand2", "zero", "one", "dff")
 # the values of a gate of each kind, over its inputs from all 0 to all 1
@@ -97,6 +97,12 @@ def refusal(folder, said):
     if words[0] == "missing" and not words[1].isdigit():
         return Refusal(7, f"file: missing {folder}/{words[1]}")
     return Refusal(3, f"library: {said}")
+
+
+def of_folder(files, folder):
+    """The files in a folder, by their names there."""
+    path = os.path.normpath(folder)
+    return {os.path.basename(name): text for name, text in files.items() if os.path.dirname(os.path.normpath(name)) == path}
 
 
 @functools.lru_cache(maxsize=16)

@@ -4,8 +4,8 @@
 patterns on it.
 """
 
-from acceptance.readers.vbe_reader import SourceReader
-from acceptance.readers.vhdl_reader import SUPPLIES, Refused, bits_of, fault, lex, limit, numbers, ordered, spelled
+from .vbe_reader import SourceReader
+from .vhdl_reader import SUPPLIES, Refused, bits_of, fault, lex, limit, numbers, ordered, spelled
 
 PORTS, FILE = 4096, 1048576
 

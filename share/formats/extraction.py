@@ -8,10 +8,10 @@ those of models.py, by their names.
 
 from typing import NamedTuple
 
-from acceptance.readers import cellcheck
-from acceptance.readers.models import IN, OUT
-from acceptance.readers.vhdl_reader import RESERVED, spelled
-from acceptance.readers.vst import Instance
+from . import cellcheck
+from .models import IN, OUT
+from .vhdl_reader import RESERVED, spelled
+from .vst import Instance
 
 COLUMN, GAP = 500, 200
 TURNS = {b"NOSYM": (False, False), b"SYM_X": (True, False), b"SYM_Y": (False, True), b"SYMXY": (True, True)}

@@ -2,7 +2,7 @@
 
 from typing import NamedTuple
 
-from acceptance.readers.vhdl_reader import Reader, Symbol, bits_of, fault
+from .vhdl_reader import Reader, Symbol, bits_of, fault
 
 TYPES = ("bit", "bit_vector", "mux_bit", "wor_bit", "mux_vector", "wor_vector")
 

@@ -6,10 +6,10 @@ what is wrong with it first. pat_oracle.py runs patterns on it.
 
 from typing import NamedTuple
 
-from acceptance.readers.models import IN, OUT, Model
-from acceptance.readers.vbe_oracle import PORTS, Ring
-from acceptance.readers.vhdl_reader import SUPPLIES, Refused, bits_of, fault, lex, limit, numbers, ordered, spelled
-from acceptance.readers.vst_reader import StructureReader
+from .models import IN, OUT, Model
+from .vbe_oracle import PORTS, Ring
+from .vhdl_reader import SUPPLIES, Refused, bits_of, fault, lex, limit, numbers, ordered, spelled
+from .vst_reader import StructureReader
 
 FILE, TERMINALS = 268435456, 2**32
 

@@ -1,6 +1,6 @@
 """The statements of data-flow texts, for the second reader, written from docs/formats/data-flow.md."""
 
-from acceptance.readers.vhdl_reader import CHAIN, Reader, Refused, limit
+from .vhdl_reader import CHAIN, Reader, Refused, limit
 
 
 class SourceReader(Reader):

@@ -1,20 +1,12 @@
-#!/usr/bin/env python3
-"""Writes the machine of a data-flow text as BLIF, which yosys and abc read. The text is read by acceptance/readers/vbe_oracle.py.
+"""Machines and netlists as BLIF, which yosys and abc read."""
 
-Usage: bench/blif.py SOURCE.vbe     prints the machine
-       bench/blif.py --genlib       prints inverter, nand of two inputs and constants as a library for abc's `map`
-"""
-import pathlib
-import sys
-
-sys.path.append(str(pathlib.Path(__file__).resolve().parent.parent))
-from acceptance.readers.vbe_oracle import machine  # noqa: E402
+from .models import IN
+from .vhdl_reader import SUPPLIES
 
 COVERS = {
     "and": "11 1", "or": "1- 1\n-1 1", "nand": "0- 1\n-0 1", "nor": "00 1", "xor": "10 1\n01 1", "xnor": "00 1\n11 1",
 }
 NOT, CHOICE, SAME = "0 1", "11- 1\n0-1 1", "1 1"
-GENLIB = "GATE inv 1 O=!a; PIN * INV 1 999 1 0 1 0\nGATE nand2 1 O=!(a*b); PIN * INV 1 999 1 0 1 0\nGATE zero 1 O=CONST0;\nGATE one 1 O=CONST1;\n"
 
 
 def named(bit):
@@ -59,12 +51,3 @@ class Writer:
             loaded = self.value(then) if enable == 1 else self.table(CHOICE, self.value(enable), self.value(then), named(bit))
             self.lines.append(f".latch {loaded} {named(bit)} re {m.clock} 0")
         return "\n".join([*self.lines, ".end", ""])
-
-
-if __name__ == "__main__":
-    if sys.argv[1:] == ["--genlib"]:
-        print(GENLIB, end="")
-    elif len(sys.argv) == 2:
-        print(Writer().machine(machine(pathlib.Path(sys.argv[1]).read_bytes())), end="")
-    else:
-        sys.exit(__doc__)

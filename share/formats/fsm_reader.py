@@ -2,7 +2,7 @@
 
 import re
 
-from acceptance.readers.vhdl_reader import CHAIN, DEPTH, IDENT, RESERVED, Reader, Refused, Symbol, bits_of, fault, lex, limit
+from .vhdl_reader import CHAIN, DEPTH, IDENT, RESERVED, Reader, Refused, Symbol, bits_of, fault, lex, limit
 
 
 def named(word):

@@ -2,7 +2,7 @@
 
 import itertools
 
-from acceptance.readers.vhdl_reader import spelled
+from .vhdl_reader import spelled
 
 
 def port_lines(ports):

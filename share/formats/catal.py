@@ -2,8 +2,8 @@
 
 import re
 
-from acceptance.readers.ap import Refused, limit
-from acceptance.readers.vhdl_reader import IDENT, RESERVED
+from .ap import Refused, limit
+from .vhdl_reader import IDENT, RESERVED
 
 LINE = re.compile(rb"([A-Za-z][A-Za-z0-9_]*)[ \t]+([A-Z]+)")
 CELLS, USED = 1024, "C"

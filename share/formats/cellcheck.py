@@ -1,7 +1,7 @@
 """A second reader of libraries of cells, and their checks, written from docs/formats/libraries.md and layouts.md alone.
 
 `library(files, with_tracks)` is the line that cell_probe has to print of a folder, given as a map from names to bytes: `ok`,
-`catal LINE`, `CELL CAUSE`, `limit KIND REACHED` or `missing FILE`. Run as `python3 -m acceptance.readers.cellcheck [--tracks] FOLDER..` it prints that
+`catal LINE`, `CELL CAUSE`, `limit KIND REACHED` or `missing FILE`. Run as `python3 -m share.formats.cellcheck [--tracks] FOLDER..` it prints that
 line for each folder.
 """
 
@@ -9,10 +9,10 @@ import itertools
 import pathlib
 import sys
 
-from acceptance.readers import ap, catal, vhdl_reader
-from acceptance.readers.vbe_oracle import checked_machine, values
-from acceptance.readers.vbe_reader import SourceReader
-from acceptance.readers.vhdl_reader import SUPPLIES
+from . import ap, catal, vhdl_reader
+from .vbe_oracle import checked_machine, values
+from .vbe_reader import SourceReader
+from .vhdl_reader import SUPPLIES
 
 FILE = 1048576
 HEIGHT, COLUMN, MOST_COLUMNS, MOST_INPUTS = 5000, 500, 32, 6
