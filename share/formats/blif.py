@@ -51,3 +51,20 @@ class Writer:
             loaded = self.value(then) if enable == 1 else self.table(CHOICE, self.value(enable), self.value(then), named(bit))
             self.lines.append(f".latch {loaded} {named(bit)} re {m.clock} 0")
         return "\n".join([*self.lines, ".end", ""])
+
+
+def of_netlist(n, names):
+    """A netlist as a model with a subcircuit for each instance, and behind it a model for each cell. `names` gives each net its name."""
+    ways = {way: " ".join(named(bit) for bit, found in n.ports.items() if found == way) for way in (IN, "out")}
+    lines = [f".model {n.name}", f".inputs {ways[IN]}", f".outputs {ways['out']}"]
+    lines += [f".names {supply}" + ("\n1" if value else "") for supply, value in zip(SUPPLIES, (1, 0)) if uses(n, supply)]
+    for i in n.instances:
+        pins = " ".join(f"{named(pin)}={names[net]}" for pin, net in i.nets.items() if pin[0] not in SUPPLIES)
+        lines.append(f".subckt {i.model.name} {pins}")
+    cells = {i.model.name: i.model.machine for i in n.instances}
+    return "\n".join([*lines, ".end", "", *(Writer().machine(m) for m in cells.values())])
+
+
+def uses(n, supply):
+    """Whether a pin that is no supply goes to this supply."""
+    return any(net[0] == supply and pin[0] not in SUPPLIES for i in n.instances for pin, net in i.nets.items())

@@ -239,8 +239,13 @@ class FsmChecks(Checks):
         return StateMachine(r.entity_name, ports, self.the_clock, [name for name, _ in r.states], list(self.over_bits(r.step)))
 
 
-def state_machine(text):
+def checked(text):
+    """The checks of a text that passes them, with its statements."""
     if len(text) > FILE:
         raise limit("file", FILE + 1)
     names = pragmas(text)
-    return FsmChecks(read(text, names), names).check().machine()
+    return FsmChecks(read(text, names), names).check()
+
+
+def state_machine(text):
+    return checked(text).machine()
