@@ -17,7 +17,7 @@ import sys
 import tempfile
 import time
 
-ELF, SECONDS = b"\x7fELF", 1800
+ELF, SECONDS = b"\x7fELF", 7200
 
 
 def command_of(process):
@@ -74,6 +74,7 @@ def compiled(folder, pipe, log):
 def main():
     if len(sys.argv) != 2 or sys.argv[1].startswith("-"):
         sys.exit(__doc__)
+    signal.signal(signal.SIGTERM, lambda *_: sys.exit(1))
     program = pathlib.Path(sys.argv[1]).resolve()
     with tempfile.TemporaryDirectory(prefix="unproved-") as folder, open(f"{folder}/log", "w+b") as log:
         pipe = f"{folder}/pipe.vbe"
