@@ -2,7 +2,7 @@
 text of docs/FROM_VHDL.md is refused or taken as the page says.
 
 A command is a line `$ COMMAND` of a block; the lines behind it are what it prints, where `..` stands for any lines. Commands run in the order of
-the page, in a folder that has cells, examples, share, bench and docs, and a folder `build` of its own with the program in it. Where a page
+the page, in a folder that has copies of cells, examples and share, and a folder `build` of its own with the program in it. Where a page
 shows nothing behind a command, its output isn't compared, but the command has to be there. Commands that build the program are skipped.
 """
 
@@ -57,9 +57,9 @@ def matches(shown, printed):
 
 
 def prepare(room, program):
-    """The folder as a reader has it, without the sources of the program."""
-    for name in ("cells", "examples", "share", "bench", "docs", "acceptance"):
-        (room.folder / name).symlink_to(TOP / name)
+    """The folder as a reader has it, without the sources of the program; copies, since commands change files."""
+    for name in ("cells", "examples", "share"):
+        shutil.copytree(TOP / name, room.folder / name)
     (room.folder / "build").mkdir()
     (room.folder / "build/alliance").symlink_to(program)
 
