@@ -38,6 +38,7 @@ def jobs_of(program, probe, cell_probe, seed, times):
     yield from pages.jobs(program)
     yield from programs.jobs(program)
     yield from pictures.jobs()
+    yield from installed.jobs(program)
     yield from front.jobs(probe, seed, times)
     yield from cells.jobs(cell_probe, seed, cells.COUNT * times)
     for tool in TOOLS.values():

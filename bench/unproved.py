@@ -59,16 +59,20 @@ def keep(found, program):
     program.chmod(0o755)
 
 
-def compiled(folder, pipe, log):
-    """Waits until the program runs, with the process that compiles it."""
+def started(folder, pipe, log):
+    """The process that compiles the program and runs it over the pipe."""
     command = [os.environ.get("RT", "rt"), "try", "--", "boom", pipe, "-o", f"{folder}/never"]
-    tried = subprocess.Popen(command, cwd="crates/alliance", stdout=log, stderr=log, stdin=subprocess.DEVNULL, env={**os.environ, "TMPDIR": folder})
+    return subprocess.Popen(command, cwd="crates/alliance", stdout=log, stderr=log, stdin=subprocess.DEVNULL, env={**os.environ, "TMPDIR": folder})
+
+
+def waited_for(tried, folder, pipe):
+    """The program, as soon as it runs; None where it doesn't come to that."""
     end = time.monotonic() + SECONDS
     found = None
     while not found and tried.poll() is None and time.monotonic() < end:
         time.sleep(0.2)
         found = running(folder, pipe)
-    return found, tried
+    return found
 
 
 def main():
@@ -79,12 +83,15 @@ def main():
     with tempfile.TemporaryDirectory(prefix="unproved-") as folder, open(f"{folder}/log", "w+b") as log:
         pipe = f"{folder}/pipe.vbe"
         os.mkfifo(pipe)
-        found, tried = compiled(folder, pipe, log)
-        if found:
-            keep(found, program)
-        if tried.poll() is None:
-            tried.send_signal(signal.SIGTERM)
-        tried.wait()
+        tried = started(folder, pipe, log)
+        try:
+            found = waited_for(tried, folder, pipe)
+            if found:
+                keep(found, program)
+        finally:
+            if tried.poll() is None:
+                tried.send_signal(signal.SIGTERM)
+            tried.wait()
         if not found:
             log.seek(0)
             sys.stderr.write(log.read().decode(errors="replace")[-3000:])
