@@ -200,9 +200,11 @@ def check_registers(results, program, name):
         if name.endswith(".fsm"):
             tool(room, program, "syf", EXAMPLES / name, "-o", "s")
             source = room.folder / "s.vbe"
+        _, anew, _ = ran("registers", "--always", source)
+        (room.folder / "a.vbe").write_text(anew)
         status, out, err = ran("registers", room.folder / "f.vbe", "-", given=report.encode())
         (room.folder / "r.vbe").write_text(out)
-        got = room.run(program, ["proof", "r.vbe", "-b", str(source)])
+        got = room.run(program, ["proof", "a.vbe", "-b", "r.vbe"])
         results.note(f"the layout of {name} and its source", status == 0 and got == (0, b"equal\n"), f"{got} {err}")
         _, other, _ = ran("registers", room.folder / "f.vbe", "--source", source)
         results.note(f"the registers of {name} by its source", other == out, other[:300])
@@ -210,7 +212,7 @@ def check_registers(results, program, name):
             swapped = report.replace("register q0 ", "register q9 ").replace("register q1 ", "register q0 ").replace("register q9 ", "register q1 ")
             _, out, err = ran("registers", room.folder / "f.vbe", "-", given=swapped.encode())
             (room.folder / "r.vbe").write_text(out)
-            status, printed = room.run(program, ["proof", "r.vbe", "-b", str(source)])
+            status, printed = room.run(program, ["proof", "a.vbe", "-b", "r.vbe"])
             results.note(f"the layout of {name} with two registers exchanged", status == 11 and printed.startswith(b"differs "), f"{status} {printed} {err}")
 
 
