@@ -3,7 +3,8 @@
 # It needs the kit alone: rt is taken from the path, or from $KIT/bin, or from /opt/rattle/bin.
 #
 # Usage: ./build.sh                     prove, build, and lay out the counter; what was proved is kept, so that it goes on where it was stopped
-#        ./build.sh --quick [-- WORDS]  run the program at once on the counter, or on WORDS of your own; nothing is proved
+#        ./build.sh --quick [-- WORDS]  leave build/alliance-unproved, and run it on the counter, or on WORDS of your own; nothing is proved
+#        ./build.sh --install PREFIX    copy the proved program that stands in build/, cells/, share/, manual pages and completions below PREFIX
 set -eu
 cd "$(dirname "$0")"
 
@@ -15,7 +16,7 @@ for folder in "${KIT:-}" /opt/rattle; do
     rt=$folder/bin/rt
   fi
 done
-if [ -z "$rt" ]; then
+if [ -z "$rt" ] && [ "${1:-}" != --install ]; then
   echo "build.sh: there is no rt; set KIT to the kit's folder" >&2
   exit 2
 fi
@@ -33,23 +34,51 @@ stands_on() {
     END { visit(top) }' crates.txt
 }
 
-# The program compiled from its sources, with nothing proved, and run with these words. It runs in the crate's folder, so what names a
-# file here, and what stands behind -o, gets its whole path.
+UNPROVED=build/alliance-unproved
+
+# Whether a source is newer than the program that was compiled without proving.
+is_old() {
+  [ ! -x "$UNPROVED" ] || [ -n "$(find crates crates.txt -newer "$UNPROVED" -not -path '*/out*' -type f -print -quit)" ]
+}
+
+# The program compiled from its sources as they stand, with nothing proved, and run with these words.
 run_unproved() {
-  local status=0 before= word words=()
-  for word in "$@"; do
-    case $word in
-      /* | -*) ;;
-      *) if [ -e "$word" ] || [ "$before" = -o ]; then word=$PWD/$word; fi ;;
-    esac
-    words+=("$word")
-    before=$word
-  done
-  echo "compiling without proving, two to five minutes; nothing is proved"
+  local status=0
   mkdir -p build
-  (cd crates/alliance && "$rt" try -- "${words[@]}") || status=$?
+  if is_old; then
+    echo "compiling without proving, two to five minutes of four processors; nothing is proved"
+    rm -rf "$UNPROVED" "$UNPROVED-files"
+    RT=$rt python3 bench/unproved.py "$UNPROVED"
+    echo "$UNPROVED: nothing of it is proved, and it is slower than the proved program"
+  fi
+  echo "$UNPROVED $*"
+  "$UNPROVED" "$@" || status=$?
   echo "build.sh: nothing of this run was proved; ./build.sh proves the program"
   return "$status"
+}
+
+# What a user has below the prefix: the program, the row library, the programs of share/, manual pages, completions.
+install_below() {
+  local prefix=$1 name
+  local shared=$prefix/share/alliance
+  if [ ! -x build/alliance ]; then
+    echo "build.sh: there is no build/alliance to install; ./build.sh builds it, proved" >&2
+    return 1
+  fi
+  mkdir -p "$prefix/bin" "$shared" "$prefix/share/man/man1" "$prefix/share/bash-completion/completions" "$prefix/share/zsh/site-functions"
+  install -m 755 build/alliance "$prefix/bin/alliance"
+  rm -rf "$shared/cells" "$shared/share" "$shared/examples"
+  cp -R cells examples share "$shared/"
+  find "$shared" -name __pycache__ -prune -exec rm -rf {} +
+  for name in share/*; do
+    if [ -f "$name" ] && [ -x "$name" ]; then
+      ln -sfn "../share/alliance/$name" "$prefix/bin/alliance-${name#share/}"
+    fi
+  done
+  python3 install/manual.py "$prefix/share/man/man1"
+  python3 install/completion.py build/alliance bash >"$prefix/share/bash-completion/completions/alliance"
+  python3 install/completion.py build/alliance zsh >"$prefix/share/zsh/site-functions/_alliance"
+  echo "$prefix/bin/alliance is installed; its row library is $shared/cells, and man -M $prefix/share/man alliance its manual"
 }
 
 # A folder that has the program's crates alone, without their must-fail edits, for one run of the gate over them.
@@ -87,8 +116,12 @@ if [ "${1:-}" = --quick ]; then
   if [ $# -gt 0 ]; then run_unproved "$@"; else run_unproved "${COUNTER[@]}"; fi
   exit
 fi
+if [ "${1:-}" = --install ] && [ $# -eq 2 ]; then
+  install_below "$2"
+  exit
+fi
 if [ $# -gt 0 ]; then
-  echo "usage: ./build.sh [--quick [-- WORDS]]" >&2
+  echo "usage: ./build.sh [--quick [-- WORDS] | --install PREFIX]" >&2
   exit 2
 fi
 

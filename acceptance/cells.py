@@ -27,11 +27,11 @@ if __name__ == "__main__":
     sys.path[0] = str(pathlib.Path(__file__).resolve().parent.parent)
 from acceptance.makers import ap_maker  # noqa: E402
 from acceptance.makers.cell_maker import CHANGES, WIDTH, CellMaker, can_change, shift  # noqa: E402
-from acceptance.readers import ap, cellcheck  # noqa: E402
 from acceptance.running import row_library  # noqa: E402
 from acceptance.running.case_file import expanded  # noqa: E402
 from acceptance.running.places import CELLS, LIBRARIES  # noqa: E402
 from acceptance.running.results import Results, Room  # noqa: E402
+from share.formats import ap, cellcheck  # noqa: E402
 
 CHUNK, MOST_SHOWN, COUNT = 250, 40, 1000
 AP, PLAIN, TRACKS = "ap", "library", "tracks"

@@ -8,7 +8,8 @@ libraries, of which cells.py says what it prints. Run are the cases of crates/ca
 acceptance/large, each as its file says; each again with a folder in the place of every file that it reads or writes, with
 that file missing, and on a full disk; the second readers on the same cases; and then the texts that each tool's module makes. Each
 language has one second reader, written from docs/FORMATS.md in this language; nothing that a program printed is wanted of it. What the
-documents name is looked up too, by bench/claims.py, and bench/headline.py has to write docs/HEADLINE.md as it stands.
+documents name is looked up too, by bench/claims.py, and bench/headline.py has to write docs/HEADLINE.md as it stands. The commands of README,
+TOUR and other pages are run and compared with what the pages show, and the programs of share/ are tried.
 
 --many makes ten times as many random texts. What can't be run on this machine is skipped with a line. The last line is
 `N passed, N failed, N skipped`.
@@ -34,6 +35,10 @@ MOST_SHOWN = 40
 def jobs_of(program, probe, cell_probe, seed, times):
     """Functions with what they are given behind the results, the longest first."""
     yield documents.check, ()
+    yield from pages.jobs(program)
+    yield from programs.jobs(program)
+    yield from pictures.jobs()
+    yield from installed.jobs(program)
     yield from front.jobs(probe, seed, times)
     yield from cells.jobs(cell_probe, seed, cells.COUNT * times)
     for tool in TOOLS.values():

@@ -22,16 +22,16 @@ sys.path.append(str(HERE.parent))
 from acceptance.makers import net_changes, source_changes  # noqa: E402
 from acceptance.makers.net_maker import NetMaker  # noqa: E402
 from acceptance.meaning import verilog  # noqa: E402
-from acceptance.readers.models import IN, OUT, library  # noqa: E402
-from acceptance.readers.pat_oracle import machine_of  # noqa: E402
-from acceptance.readers.vbe_oracle import Machine, Ring  # noqa: E402
-from acceptance.readers.vhdl_reader import Refused, spelled  # noqa: E402
-from acceptance.readers.vst import netlist  # noqa: E402
-from acceptance.readers.vst_writer import laid_out  # noqa: E402
 from acceptance.running.results import Room  # noqa: E402
 from acceptance.tools import proof  # noqa: E402
 from acceptance.tools.boog import of_cells  # noqa: E402
-from blif import Writer  # noqa: E402
+from share.formats.blif import Writer  # noqa: E402
+from share.formats.models import IN, OUT, library  # noqa: E402
+from share.formats.pat_oracle import machine_of  # noqa: E402
+from share.formats.vbe_oracle import Machine, Ring  # noqa: E402
+from share.formats.vhdl_reader import Refused, spelled  # noqa: E402
+from share.formats.vst import netlist  # noqa: E402
+from share.formats.vst_writer import laid_out  # noqa: E402
 
 SECONDS = 60
 CELLS = ["inv_x1", "inv_x2", "na2_x1", "no2_x1", "xr2_x1", "sff1_x4", "sff1_x8"]

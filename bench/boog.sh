@@ -27,7 +27,7 @@ abc=$(command -v berkeley-abc || command -v yosys-abc || true)
 [ -n "$yosys" ] || echo "yosys isn't installed: its columns are left out"
 [ -n "$abc" ] || echo "berkeley-abc isn't installed: its columns are left out"
 cd "$work"
-python3 "$here/blif.py" --genlib >gates.genlib
+cp "$here/gates.genlib" .
 
 # The cells that were printed: of abc the sum of what stands behind `lat =` and `nd =`; of yosys the last `Number of cells`, or
 # the count before `cells`, which newer ones print.
@@ -49,7 +49,7 @@ for gates in ${GATES:-1000 2000 4000 8000 16000}; do
   cells=$(sed -n 's/^cells //p' printed) bytes=-
   [ ! -f r.vst ] || bytes=$(wc -c <r.vst)
   abc_took=- abc_n=- yosys_took=- yosys_n=-
-  python3 "$here/blif.py" c.vbe >c.blif
+  python3 "$here/../share/netlist" --blif c.vbe >c.blif
   if [ -n "$abc" ]; then
     read -r abc_took _ < <(measured said "$abc" -c "read_library gates.genlib; read_blif c.blif; strash; map -a; print_stats")
     abc_n=$(abc_cells said)

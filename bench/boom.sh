@@ -49,7 +49,7 @@ for case in ${CASES:-woven:8 woven:16 woven:32 woven:64 apart:8 apart:10 apart:1
   each=-
   [ "$memory" = - ] || [ -z "$nodes" ] || each=$((memory * 1024 / nodes))
   abc_first=- collapse_took=- collapse_n=- dc2_took=- dc2_n=- yosys_took=- yosys_n=-
-  python3 "$here/blif.py" c.vbe >c.blif
+  python3 "$here/../share/netlist" --blif c.vbe >c.blif
   if [ -n "$abc" ]; then
     read -r _ _ < <(measured said "$abc" -c "read_blif c.blif; strash; print_stats")
     abc_first=$(abc_nodes said)

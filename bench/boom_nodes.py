@@ -8,7 +8,7 @@ import sys
 
 sys.path.append(str(pathlib.Path(__file__).resolve().parent.parent))
 from acceptance.meaning import diagrams  # noqa: E402
-from acceptance.readers.vbe_oracle import machine  # noqa: E402
+from share.formats.vbe_oracle import machine  # noqa: E402
 
 sys.setrecursionlimit(100000)
 count = diagrams.greatest(machine(pathlib.Path(sys.argv[1]).read_bytes()))

@@ -9,7 +9,7 @@ set -eu
 cd "$(dirname "$0")/.."
 python3 bench/cells.py "$@"
 if [ "${1:-}" = --check ]; then
-  said=$(python3 -m acceptance.readers.cellcheck --tracks cells)
+  said=$(python3 -m share.formats.cellcheck --tracks cells)
   echo "checks of the library: $said"
   [ "$said" = ok ]
 fi

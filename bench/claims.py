@@ -23,7 +23,7 @@ import re
 import sys
 
 TOP = pathlib.Path(__file__).resolve().parent.parent
-ROOTS = "docs|crates|acceptance|bench|examples|cells"
+ROOTS = "docs|crates|acceptance|bench|share|install|examples|cells"
 PAGES = [TOP / "README.md", *sorted((TOP / "docs").rglob("*.md")), *sorted(TOP.glob("cells/*.md")), *sorted(TOP.glob("examples/*/*.md")),
          *sorted(TOP.glob("acceptance/*/*.md"))]
 CODE = (".rt", ".antt", ".py", ".sh", ".txt", ".vbe", ".fsm", ".edit", ".toml", "")

@@ -11,8 +11,8 @@ import sys
 
 HERE = pathlib.Path(__file__).resolve().parent
 sys.path.append(str(HERE.parent))
-from acceptance.meaning.extraction import instances_of  # noqa: E402
-from acceptance.readers import ap, cellcheck  # noqa: E402
+from share.formats import ap, cellcheck  # noqa: E402
+from share.formats.extraction import instances_of  # noqa: E402
 import viewer  # noqa: E402
 
 CELLS = {"inv_x1": (1500, (500, 1000)), "na2_x1": (2000, (500, 1000, 1500)), "sff1_x4": (4000, (500, 1500, 3000))}

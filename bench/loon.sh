@@ -25,7 +25,7 @@ cp -r "$here/../cells" "$work/lib"
 abc=$(command -v berkeley-abc || command -v yosys-abc || true)
 [ -n "$abc" ] || echo "berkeley-abc isn't installed: its column is left out"
 cd "$work"
-python3 "$here/blif.py" --genlib >gates.genlib
+cp "$here/gates.genlib" .
 fanout=${FANOUT:-8}
 
 # A netlist of an inverter whose output so many inverters read; one of them drives the port.
@@ -61,7 +61,7 @@ printf "$row" gates instances seconds MB gates*2 cells delay abc
 last_took=- last_number=0
 for gates in ${GATES:-1000 2000 4000 8000 16000}; do
   python3 "$here/asimut_inputs.py" "$gates" 1 "$work" --nands
-  python3 "$here/blif.py" c.vbe >c.blif
+  python3 "$here/../share/netlist" --blif c.vbe >c.blif
   rm -f r.vst
   measured printed "$program" boog c.vbe -l lib -o r >/dev/null
   number "$gates" "$(sed -n 's/^cells //p' printed)"

@@ -14,8 +14,8 @@ import sys
 HERE = pathlib.Path(__file__).resolve().parent
 sys.path.append(str(HERE.parent))
 from acceptance.meaning import verilog  # noqa: E402
-from acceptance.readers.vbe_oracle import Machine, machine  # noqa: E402
 from acceptance.tools import boom, proof  # noqa: E402
+from share.formats.vbe_oracle import Machine, machine  # noqa: E402
 
 
 def counter(bits, next_of, signals="", body=""):
@@ -70,7 +70,7 @@ def main():
     for name, text in (("a", a), ("b", b), ("c", b.replace(old, new, 1))):
         (folder / f"{name}.vbe").write_bytes(text)
         (folder / f"{name}.v").write_text(verilog.of_machine(apart(machine(text), name), name))
-        blif = subprocess.run([sys.executable, HERE / "blif.py", folder / f"{name}.vbe"], check=True, capture_output=True)
+        blif = subprocess.run([sys.executable, HERE.parent / "share/netlist", "--blif", folder / f"{name}.vbe"], check=True, capture_output=True)
         (folder / f"{name}.blif").write_bytes(blif.stdout)
 
 

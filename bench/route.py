@@ -15,10 +15,10 @@ import pathlib
 import sys
 
 sys.path.append(str(pathlib.Path(__file__).resolve().parent.parent))
-from acceptance.meaning import extraction, maze  # noqa: E402
+from acceptance.meaning import maze  # noqa: E402
 from acceptance.meaning.rows import Rows, head_lines, rows_of  # noqa: E402
-from acceptance.readers import ap, cellcheck, models  # noqa: E402
-from acceptance.readers.vst import Netlist  # noqa: E402
+from share.formats import ap, cellcheck, extraction, models  # noqa: E402
+from share.formats.vst import Netlist  # noqa: E402
 
 
 def block_of(figure, folder):

@@ -19,7 +19,7 @@ from route import block_of  # noqa: E402
 
 from acceptance.meaning.layout import COLUMN, FIRST, node  # noqa: E402
 from acceptance.meaning.rows import place  # noqa: E402
-from acceptance.readers import ap  # noqa: E402
+from share.formats import ap  # noqa: E402
 
 HALF, HEIGHT = 100, 5000
 # without a display it is a Tcl shell that reads its commands, and has to be told where its own are

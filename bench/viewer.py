@@ -14,9 +14,9 @@ import re
 import sys
 
 sys.path.append(str(pathlib.Path(__file__).resolve().parent.parent))
-from acceptance.meaning.extraction import Flat, instances_of  # noqa: E402
-from acceptance.readers import ap, cellcheck  # noqa: E402
-from acceptance.readers.vhdl_reader import spelled  # noqa: E402
+from share.formats import ap, cellcheck  # noqa: E402
+from share.formats.extraction import Flat, instances_of  # noqa: E402
+from share.formats.vhdl_reader import spelled  # noqa: E402
 
 CUT = 50
 # A mirror in CIF is about the axis, and is moved behind it by the cell's width or height.

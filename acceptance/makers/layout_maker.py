@@ -2,8 +2,8 @@
 shorted, or a line at fault.
 """
 
-from acceptance.meaning.extraction import Placed
-from acceptance.readers import ap
+from share.formats import ap
+from share.formats.extraction import Placed
 
 PORTS = [("a", -1), ("b", -1), ("q", -1), ("ck", -1), ("z", -1), ("v", 0), ("v", 1), ("w", 3), ("vdd", -1), ("vss", -1)]
 ODD = [("v", -1), ("v", 7), ("signal", -1), ("u", 4294967295)]

@@ -8,9 +8,9 @@ from typing import NamedTuple
 
 from acceptance.meaning.maze import Tree, cost, named
 from acceptance.meaning.rows import LOWEST, Rows
-from acceptance.readers.models import IN, OUT
-from acceptance.readers.vhdl_reader import SUPPLIES
-from acceptance.readers.vst import Instance, Netlist
+from share.formats.models import IN, OUT
+from share.formats.vhdl_reader import SUPPLIES
+from share.formats.vst import Instance, Netlist
 
 GATES = ("inv_x1", "na2_x1", "na2_x1", "na2_x1")
 

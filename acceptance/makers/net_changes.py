@@ -5,9 +5,9 @@ the netlist has nothing to change so; what comes out need not pass the checks of
 import itertools
 from typing import NamedTuple
 
-from acceptance.readers.models import OUT
-from acceptance.readers.vhdl_reader import SUPPLIES
-from acceptance.readers.vst_writer import laid_out
+from share.formats.models import OUT
+from share.formats.vhdl_reader import SUPPLIES
+from share.formats.vst_writer import laid_out
 
 
 class Changed(NamedTuple):

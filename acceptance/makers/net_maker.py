@@ -3,8 +3,8 @@
 import re
 
 from acceptance.makers.random_sources import Maker, Vector, span
-from acceptance.readers.models import IN, OUT
-from acceptance.readers.vhdl_reader import SUPPLIES, bits_of, spelled
+from share.formats.models import IN, OUT
+from share.formats.vhdl_reader import SUPPLIES, bits_of, spelled
 
 CHANGES = (
     "( ) , ; : => <= . 0 1 2 3 4294967296 downto to in out inout bit bit_vector mux_bit wor_bit mux_vector signal component end port map begin is of "

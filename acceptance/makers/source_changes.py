@@ -4,9 +4,9 @@ None where none of a few tries does.
 
 import re
 
-from acceptance.readers.pat_oracle import machine_of
-from acceptance.readers.vbe_oracle import Ring
-from acceptance.readers.vhdl_reader import Refused
+from share.formats.pat_oracle import machine_of
+from share.formats.vbe_oracle import Ring
+from share.formats.vhdl_reader import Refused
 
 TRIES = 12
 GATES = ("and", "or", "xor", "xnor", "nand", "nor")

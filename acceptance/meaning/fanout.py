@@ -6,8 +6,8 @@ None where the library has neither a buffer nor an inverter.
 
 import itertools
 
-from acceptance.readers.models import IN
-from acceptance.readers.vhdl_reader import SUPPLIES
+from share.formats.models import IN
+from share.formats.vhdl_reader import SUPPLIES
 
 
 class Put:

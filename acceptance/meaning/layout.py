@@ -8,9 +8,9 @@ import itertools
 
 from acceptance.meaning import diagrams
 from acceptance.meaning.mapping import machine_size
-from acceptance.meaning.timing import own_cells, worst
-from acceptance.readers import cellcheck
-from acceptance.readers.vhdl_reader import SUPPLIES
+from share.formats import cellcheck
+from share.formats.timing import own_cells, worst
+from share.formats.vhdl_reader import SUPPLIES
 
 FIRST, COLUMN, TRACK = 1500, 500, 5500
 RAILS, STRAPS = {"vss": 300, "vdd": 4700}, {"vss": 500, "vdd": 1000}

@@ -5,7 +5,7 @@ docs/formats/netlists.md and measures.md: how large a machine is, its graph, and
 from collections import Counter
 from typing import NamedTuple
 
-from acceptance.readers.models import IN, OUT
+from share.formats.models import IN, OUT
 
 WEIGHTS = {"nand": 1, "and": 2, "or": 3, "nor": 4, "xor": 4, "xnor": 5}
 CHOICE, OUTPUT, REGISTER, MOST_SIZE = 4, 2, 5, 16384

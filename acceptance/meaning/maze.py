@@ -9,13 +9,13 @@ there may be none. `drawn` is the text of a layout with given trees.
 import re
 from array import array
 
-from acceptance.meaning.extraction import instances_of
 from acceptance.meaning.layout import text_faults
 from acceptance.meaning.rows import LOWEST, Rows, access, head_lines, mark_lines, on_grid, place, rows_of
-from acceptance.readers import cellcheck
-from acceptance.readers.models import IN, OUT
-from acceptance.readers.vhdl_reader import SUPPLIES, spelled
-from acceptance.readers.vst import Instance, Netlist
+from share.formats import cellcheck
+from share.formats.extraction import instances_of
+from share.formats.models import IN, OUT
+from share.formats.vhdl_reader import SUPPLIES, spelled
+from share.formats.vst import Instance, Netlist
 
 VIA, NOBODY, NOWHERE = 3, -1, -2
 MARK = re.compile(rb"n(0|[1-9][0-9]*)")

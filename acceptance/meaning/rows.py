@@ -7,9 +7,9 @@ gives the lines of its layout that stand before the nets. Netlists are those of 
 
 from typing import NamedTuple
 
-from acceptance.meaning.extraction import Placed, instances_of
 from acceptance.meaning.layout import COLUMN, FIRST, RAILS, STRAPS, label, node
-from acceptance.readers.vhdl_reader import SUPPLIES
+from share.formats.extraction import Placed, instances_of
+from share.formats.vhdl_reader import SUPPLIES
 
 HEIGHT, LOWEST, OF_PORTS = 5000, 2, 3
 # the box above the highest row, for the ports

@@ -2,7 +2,7 @@
 contents of the registers, those that are no code among them.
 """
 
-from acceptance.readers.vbe_oracle import Machine
+from share.formats.vbe_oracle import Machine
 
 
 def first_free(stem, taken):

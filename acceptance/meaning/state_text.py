@@ -3,8 +3,8 @@ diagrams.py, with two operands an operator and one condition a choice.
 """
 
 from acceptance.meaning.diagrams import plain
-from acceptance.readers.models import OUT
-from acceptance.readers.vhdl_reader import spelled
+from share.formats.models import OUT
+from share.formats.vhdl_reader import spelled
 
 CHAINS = ("and", "or", "xor", "xnor")
 

@@ -45,12 +45,6 @@ def held(files, name):
     return next((text for other, text in files.items() if os.path.normpath(other) == path), None)
 
 
-def of_folder(files, folder):
-    """The files in a folder, by their names there."""
-    path = os.path.normpath(folder)
-    return {os.path.basename(name): text for name, text in files.items() if os.path.dirname(os.path.normpath(name)) == path}
-
-
 def trouble(files, name, most):
     """The status and the line behind the tool's word where a file isn't there or is too long, else None."""
     text = held(files, name)

@@ -7,7 +7,7 @@ and one past it, and texts made at random of tokens.
 import random
 import subprocess
 
-from acceptance.readers.vhdl_reader import Reader, Refused, lex
+from share.formats.vhdl_reader import Reader, Refused, lex
 
 EXAMPLES = [
     b"""-- one inverter

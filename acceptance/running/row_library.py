@@ -4,8 +4,8 @@ import itertools
 import subprocess
 import sys
 
-from acceptance.readers.cellcheck import Behaviour
 from acceptance.running.places import BENCH, CELLS
+from share.formats.cellcheck import Behaviour
 
 INVERTS, FOLLOWS = ("tphl", "tplh"), ("tpll", "tphh")
 

@@ -1,6 +1,6 @@
 """Whether what a program came to is what the second readers say, and how a reader's refusal is printed."""
 
-from acceptance.readers.vbe_oracle import Ring
+from share.formats.vbe_oracle import Ring
 
 
 def agrees(got, wanted):

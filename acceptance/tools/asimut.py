@@ -9,14 +9,15 @@ import sys
 
 from acceptance.makers.random_sources import PATTERN_WORDS, WORDS, Maker, changed, flipped
 from acceptance.meaning import verilog
-from acceptance.readers.pat_oracle import answer, machine_of
-from acceptance.readers.vbe_oracle import FILE, Ring, machine
 from acceptance.readers.words import TOOLS_LINE, command, held, trouble
 from acceptance.running.case_file import Case
 from acceptance.running.places import BENCH, CELLS, EXAMPLES, ROWS
 from acceptance.running.results import Room, compare, run_in, shown
 from acceptance.tools import netlists
 from acceptance.tools.answers import agrees
+from acceptance.tools.sources import answer
+from share.formats.pat_oracle import machine_of
+from share.formats.vbe_oracle import FILE, Ring, machine
 
 ROW = ROWS / "asimut-runs/the-inverter.txt"
 TEXT_WORDS = ["asimut", "row1.vbe", "-p", "t.pat"]

@@ -12,17 +12,18 @@ from acceptance.makers.cell_maker import CellMaker
 from acceptance.makers.random_sources import Maker, changed, flipped
 from acceptance.makers.random_sources import WORDS as SOURCE_WORDS
 from acceptance.meaning.mapping import MOST_SIZE, Graph, Shapes, drawn_graph, drawn_netlist, machine_size
-from acceptance.readers.models import IN, OUT, Refusal, first_missing, first_of, library
-from acceptance.readers.pat_oracle import answer, machine_of
-from acceptance.readers.vbe_oracle import FILE, Ring
-from acceptance.readers.vhdl_reader import SUPPLIES, Refused
-from acceptance.readers.vst import netlist
-from acceptance.readers.vst_writer import laid_out
 from acceptance.readers.words import TOOLS_LINE, command, held, trouble
 from acceptance.running.places import BENCH, CELLS, EXAMPLES
 from acceptance.running.results import Room, compare, run_in, shown
 from acceptance.tools import netlists
 from acceptance.tools.answers import agrees, refusal
+from acceptance.tools.sources import answer
+from share.formats.models import IN, OUT, Refusal, first_missing, first_of, library
+from share.formats.pat_oracle import machine_of
+from share.formats.vbe_oracle import FILE, Ring
+from share.formats.vhdl_reader import SUPPLIES, Refused
+from share.formats.vst import netlist
+from share.formats.vst_writer import laid_out
 
 USAGE = "usage: alliance boog SOURCE.vbe -l DIR -o NAME\n"
 FIVE = ["inv_x1", "na2_x1", "zero_x0", "one_x0", "sff1_x4"]

@@ -9,15 +9,15 @@ from acceptance.makers.random_sources import Maker, changed
 from acceptance.makers.random_sources import WORDS as SOURCE_WORDS
 from acceptance.meaning import diagrams
 from acceptance.meaning.mapping import CHOICE, MOST_SIZE, formula_size, machine_size
-from acceptance.readers.models import OUT
-from acceptance.readers.pat_oracle import machine_of
-from acceptance.readers.vbe_oracle import FILE, Ring
-from acceptance.readers.vhdl_reader import Refused, spelled
 from acceptance.readers.words import TOOLS_LINE, command, held, trouble
 from acceptance.running.places import EXAMPLES
 from acceptance.running.results import Room, compare, run_in, shown
 from acceptance.tools.answers import agrees as same_answer
 from acceptance.tools.answers import refusal
+from share.formats.models import OUT
+from share.formats.pat_oracle import machine_of
+from share.formats.vbe_oracle import FILE, Ring
+from share.formats.vhdl_reader import Refused, spelled
 
 USAGE = "usage: alliance boom SOURCE.vbe -o NAME [--nodes 1..4000000]\n"
 WORDS = ["boom", "s.vbe", "-o", "r"]

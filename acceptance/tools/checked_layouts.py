@@ -11,13 +11,13 @@ from typing import NamedTuple
 from acceptance.makers import layout_changes
 from acceptance.makers.random_sources import Maker
 from acceptance.meaning.mapping import machine_size
-from acceptance.readers.models import library
-from acceptance.readers.pat_oracle import machine_of
-from acceptance.readers.vst import FILE, netlist
 from acceptance.running.places import CELLS as SHIPPED_CELLS, EXAMPLES
 from acceptance.running.results import Room, shown
 from acceptance.tools import cougar, druc, flatbeh, flow, lvx, proof
 from acceptance.tools.boog import of_cells
+from share.formats.models import library
+from share.formats.pat_oracle import machine_of
+from share.formats.vst import FILE, netlist
 
 CELLS = [*flow.FIVE, "inv_x2", "no2_x1", "sff1_x8", "xr2_x1"]
 LAYOUTS, CHUNK, MOST_SIZE = 5, 1, 90

@@ -7,11 +7,7 @@ import random
 
 from acceptance.makers.layout_maker import LayoutMaker, damaged
 from acceptance.makers.random_sources import Maker
-from acceptance.meaning import extraction
-from acceptance.readers import ap, cellcheck
-from acceptance.readers.models import Refusal, library
-from acceptance.readers.vst import FILE
-from acceptance.readers.words import TOOLS_LINE, command, held, of_folder, trouble
+from acceptance.readers.words import TOOLS_LINE, command, held, trouble
 from acceptance.running.case_file import Case
 from acceptance.running.places import CELLS, EXAMPLES, ROWS
 from acceptance.running.results import Room, compare, run_in, shown
@@ -19,6 +15,9 @@ from acceptance.tools import flow, netlists
 from acceptance.tools.answers import agrees, refusal
 from acceptance.tools.boog import layout_faults, of_cells
 from acceptance.tools.net_jobs import random_library
+from share.formats import ap, cellcheck, extraction
+from share.formats.models import Refusal, library, of_folder
+from share.formats.vst import FILE
 
 ROW = ROWS / "cougar-runs/the-inverter.txt"
 USAGE = "usage: alliance cougar SOURCE.ap -l DIR -o NAME\n"

@@ -6,10 +6,10 @@ kind. `faults(n, models, fanout)` says what of its buffers and drives isn't as i
 """
 
 from acceptance.meaning.fanout import counts, limited
-from acceptance.readers.models import IN, first_of
-from acceptance.readers.vhdl_reader import SUPPLIES, Refused
-from acceptance.readers.vst import Instance, Netlist
 from acceptance.tools.loon import delay_faults, structure_faults
+from share.formats.models import IN, first_of
+from share.formats.vhdl_reader import SUPPLIES, Refused
+from share.formats.vst import Instance, Netlist
 
 
 def is_buffer(instance):

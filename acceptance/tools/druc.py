@@ -9,15 +9,14 @@ import random
 from typing import NamedTuple
 
 from acceptance.makers.layout_maker import LayoutMaker
-from acceptance.meaning import extraction
-from acceptance.readers import ap, cellcheck
-from acceptance.readers.models import Refusal, library
-from acceptance.readers.vst import FILE
-from acceptance.readers.words import command, held, of_folder, trouble
+from acceptance.readers.words import command, held, trouble
 from acceptance.running.results import Room, shown
 from acceptance.tools.answers import agrees, refusal
 from acceptance.tools.boog import of_cells
 from acceptance.tools.net_jobs import random_library
+from share.formats import ap, cellcheck, extraction
+from share.formats.models import Refusal, library, of_folder
+from share.formats.vst import FILE
 
 USAGE = "usage: alliance druc SOURCE.ap -l DIR\n"
 WORDS = ["druc", "r.ap", "-l", "lib"]

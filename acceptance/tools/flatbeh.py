@@ -13,11 +13,6 @@ from acceptance.makers.cell_maker import CellMaker
 from acceptance.makers.net_maker import NetMaker, one_change
 from acceptance.makers.random_sources import Maker
 from acceptance.meaning.mapping import formula_size, machine_size
-from acceptance.readers.models import IN, OUT, Refusal, library
-from acceptance.readers.pat_oracle import machine_of
-from acceptance.readers.vbe_oracle import Ring
-from acceptance.readers.vhdl_reader import Refused, spelled
-from acceptance.readers.vst import FILE, netlist
 from acceptance.readers.words import command, held, trouble
 from acceptance.running.places import BENCH
 from acceptance.running.results import Room, shown
@@ -25,6 +20,11 @@ from acceptance.tools.answers import agrees as same_answer
 from acceptance.tools.answers import refusal
 from acceptance.tools.boog import FIVE, VECTORS, of_cells
 from acceptance.tools.net_jobs import random_library
+from share.formats.models import IN, OUT, Refusal, library
+from share.formats.pat_oracle import machine_of
+from share.formats.vbe_oracle import Ring
+from share.formats.vhdl_reader import Refused, spelled
+from share.formats.vst import FILE, netlist
 
 USAGE = "usage: alliance flatbeh SOURCE.vst -l DIR -o NAME\n"
 WORDS = ["flatbeh", "r.vst", "-l", "lib", "-o", "r"]

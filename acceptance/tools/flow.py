@@ -14,20 +14,12 @@ from acceptance.makers.random_sources import Maker, changed
 from acceptance.makers.random_sources import WORDS as SOURCE_WORDS
 from acceptance.makers.random_states import StateMaker
 from acceptance.makers.random_wide import WideMaker, with_drives
-from acceptance.meaning import diagrams, extraction, layout, maze, placing
+from acceptance.meaning import diagrams, layout, maze, placing
 from acceptance.meaning.mapping import CHOICE, MOST_SIZE, machine_size
 from acceptance.meaning.rows import Rows, rows_of
 from acceptance.meaning.state_codes import code_lines
 from acceptance.meaning.state_machine import machine_of as equations_of
-from acceptance.meaning.state_walk import StateMachine
-from acceptance.readers import ap, catal, cellcheck, models
-from acceptance.readers.fsm_oracle import state_machine
-from acceptance.readers.models import IN, Refusal, first_missing
-from acceptance.readers.pat_oracle import machine_of
-from acceptance.readers.vbe_oracle import FILE, Machine, Ring
-from acceptance.readers.vhdl_reader import SUPPLIES, Refused, spelled
-from acceptance.readers.vst import Netlist
-from acceptance.readers.words import TOOLS_LINE, command, held, of_folder, trouble
+from acceptance.readers.words import TOOLS_LINE, command, held, trouble
 from acceptance.running.case_file import Case
 from acceptance.running.places import CELLS, EXAMPLES, ROWS
 from acceptance.running.results import Room, compare, run_in, shown
@@ -37,6 +29,14 @@ from acceptance.tools.answers import refusal
 from acceptance.tools.boog import differs_from, of_cells, order_faults
 from acceptance.tools.boom import MOST_NODES, NODES, inner_size
 from acceptance.tools.syf import STYLES, behaviour_faults, codes_of, style_of
+from share.formats import ap, catal, cellcheck, extraction, models
+from share.formats.fsm_oracle import state_machine
+from share.formats.models import IN, Refusal, first_missing, of_folder
+from share.formats.pat_oracle import machine_of
+from share.formats.state_walk import StateMachine
+from share.formats.vbe_oracle import FILE, Machine, Ring
+from share.formats.vhdl_reader import SUPPLIES, Refused, spelled
+from share.formats.vst import Netlist
 
 ROW = ROWS / "flow-layouts/one-inverter.txt"
 USAGE = "usage: alliance flow SOURCE.vbe|.fsm -l DIR -o NAME [-e o|r|j] [--tracks] [--rows 1..256] [--metals 4..6] [--seed 0..4294967295] [--moves 0..1000000] [--nodes 1..4000000] [--fanout 4..1000000]\n"

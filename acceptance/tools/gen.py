@@ -10,15 +10,15 @@ from typing import NamedTuple
 
 from acceptance.makers.random_wide import with_drives
 from acceptance.meaning import state_text
-from acceptance.readers import vbe_oracle
-from acceptance.readers.models import IN, OUT
-from acceptance.readers.vbe_oracle import Machine
-from acceptance.readers.vhdl_reader import Refused
 from acceptance.readers.words import is_option, option_of
 from acceptance.running.results import Room, compare, run_in, shown
 from acceptance.tools import flow
 from acceptance.tools.boog import of_cells
 from acceptance.tools.flow import agrees
+from share.formats import vbe_oracle
+from share.formats.models import IN, OUT
+from share.formats.vbe_oracle import Machine
+from share.formats.vhdl_reader import Refused
 
 OPTIONS = "[--rows 1..256] [--metals 4..6] [--seed 0..4294967295] [--moves 0..1000000] [--nodes 1..4000000] [--fanout 4..1000000]"
 USAGE = f"usage: alliance gen --size 8..4000 -l DIR -o NAME [--tracks] {OPTIONS}\n"

@@ -13,16 +13,16 @@ from acceptance.makers.cell_maker import CellMaker
 from acceptance.makers.net_maker import NetMaker, one_change
 from acceptance.makers.random_sources import Maker
 from acceptance.meaning.fanout import counts, limited
-from acceptance.meaning.timing import better_exchange, own_cells, worst, worst_of_all_paths
-from acceptance.readers.models import Refusal, library
-from acceptance.readers.vbe_oracle import Ring
-from acceptance.readers.vhdl_reader import SUPPLIES, Refused
-from acceptance.readers.vst import FILE, netlist
 from acceptance.readers.words import command, held, trouble
 from acceptance.running.results import Room, shown
 from acceptance.tools.answers import agrees as same_answer
 from acceptance.tools.answers import refusal
 from acceptance.tools.boog import FIVE, of_cells
+from share.formats.models import Refusal, library
+from share.formats.timing import better_exchange, own_cells, worst, worst_of_all_paths
+from share.formats.vbe_oracle import Ring
+from share.formats.vhdl_reader import SUPPLIES, Refused
+from share.formats.vst import FILE, netlist
 
 USAGE = "usage: alliance loon SOURCE.vst -l DIR -o NAME [--fanout 4..1000000]\n"
 WORDS = ["loon", "r.vst", "-l", "lib", "-o", "w", "--fanout"]

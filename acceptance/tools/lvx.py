@@ -7,17 +7,17 @@ import random
 
 from acceptance.makers.net_changes import CHANGES, respelled
 from acceptance.makers.net_maker import NetMaker, one_change
-from acceptance.readers.models import Refusal, library
-from acceptance.readers.vbe_oracle import Ring
-from acceptance.readers.vhdl_reader import Refused, spelled
-from acceptance.readers.vst import FILE, netlist
-from acceptance.readers.vst_writer import laid_out
 from acceptance.readers.words import command, held, trouble
 from acceptance.running.results import Room, shown
 from acceptance.tools.answers import agrees as same_answer
 from acceptance.tools.answers import refusal
 from acceptance.tools.boog import of_cells
 from acceptance.tools.net_jobs import random_library
+from share.formats.models import Refusal, library
+from share.formats.vbe_oracle import Ring
+from share.formats.vhdl_reader import Refused, spelled
+from share.formats.vst import FILE, netlist
+from share.formats.vst_writer import laid_out
 
 USAGE = "usage: alliance lvx SOURCE.vst -b OTHER.vst -l DIR\n"
 WORDS = ["lvx", "a.vst", "-b", "b.vst", "-l", "lib"]

@@ -12,13 +12,13 @@ from acceptance.makers.cell_maker import CellMaker
 from acceptance.makers.net_maker import NetMaker, one_change
 from acceptance.makers.random_sources import flipped
 from acceptance.meaning import verilog
-from acceptance.readers.models import library
-from acceptance.readers.vst import FILE, netlist
 from acceptance.running.places import BENCH
 from acceptance.running.results import Room, shown
 from acceptance.tools.answers import agrees
 from acceptance.tools.boog import of_cells
 from acceptance.tools.netlists import WORDS, of_models
+from share.formats.models import library
+from share.formats.vst import FILE, netlist
 
 NETLISTS, CHANGES, RINGS, CHUNK = 150, 12, 150, 25
 ROW_CELLS = ["inv_x1", "na2_x1", "sff1_x4"]

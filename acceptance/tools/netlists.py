@@ -1,13 +1,13 @@
 """What the second readers say of `asimut` on a netlist."""
 
-from acceptance.readers.models import Refusal, library
-from acceptance.readers.pat_oracle import Differs, PatternReader, check, simulate
-from acceptance.readers.vbe_oracle import FILE as PATTERNS_FILE
-from acceptance.readers.vbe_oracle import Ring
-from acceptance.readers.vhdl_reader import Refused
-from acceptance.readers.vst import FILE, netlist
 from acceptance.readers.words import held, trouble
 from acceptance.tools.answers import refusal
+from share.formats.models import Refusal, library
+from share.formats.pat_oracle import Differs, PatternReader, check, simulate
+from share.formats.vbe_oracle import FILE as PATTERNS_FILE
+from share.formats.vbe_oracle import Ring
+from share.formats.vhdl_reader import Refused
+from share.formats.vst import FILE, netlist
 
 TOOL = "asimut"
 WORDS = ["asimut", "r.vst", "-p", "t.pat", "-l", "lib"]

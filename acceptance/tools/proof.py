@@ -12,16 +12,16 @@ from acceptance.makers.random_sources import Maker
 from acceptance.makers.source_changes import CHANGES
 from acceptance.meaning import diagrams
 from acceptance.meaning.mapping import machine_size
-from acceptance.readers.models import IN, OUT
-from acceptance.readers.pat_oracle import machine_of
-from acceptance.readers.vbe_oracle import FILE, Ring
-from acceptance.readers.vhdl_reader import Refused, spelled
 from acceptance.readers.words import command, held, trouble
 from acceptance.running.places import EXAMPLES
 from acceptance.running.results import Room, shown
 from acceptance.tools.answers import agrees as same_answer
 from acceptance.tools.answers import refusal
 from acceptance.tools.boom import MOST_NODES, NODES, adder, entity, multiplier, parity
+from share.formats.models import IN, OUT
+from share.formats.pat_oracle import machine_of
+from share.formats.vbe_oracle import FILE, Ring
+from share.formats.vhdl_reader import Refused, spelled
 
 USAGE = "usage: alliance proof SOURCE.vbe -b OTHER.vbe [--nodes 1..4000000]\n"
 WORDS = ["proof", "a.vbe", "-b", "b.vbe"]

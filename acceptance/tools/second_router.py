@@ -5,13 +5,13 @@ import random
 import re
 
 from acceptance.makers.maze_maker import Habits, Router, made_block
-from acceptance.meaning import extraction, maze
+from acceptance.meaning import maze
 from acceptance.meaning.maze import Tree
-from acceptance.readers import ap, cellcheck, models
-from acceptance.readers.vhdl_reader import Refused
-from acceptance.readers.vst import Netlist
-from acceptance.readers.words import of_folder
 from acceptance.tools.boog import of_cells
+from share.formats import ap, cellcheck, extraction, models
+from share.formats.models import of_folder
+from share.formats.vhdl_reader import Refused
+from share.formats.vst import Netlist
 
 BLOCKS, ORDERS = 12, 6
 CELLS = ["inv_x1", "na2_x1", "sff1_x4"]

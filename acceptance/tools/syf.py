@@ -11,16 +11,16 @@ from acceptance.makers.random_states import WORDS, StateMaker
 from acceptance.meaning import state_text
 from acceptance.meaning.state_codes import code_lines, codes
 from acceptance.meaning.state_machine import machine_of
-from acceptance.meaning.state_walk import cycle, leads, reset_to
-from acceptance.readers import vbe_oracle
-from acceptance.readers.fsm_oracle import state_machine
-from acceptance.readers.pat_oracle import answer
-from acceptance.readers.vbe_oracle import FILE
-from acceptance.readers.vhdl_reader import Refused
 from acceptance.readers.words import TOOLS_LINE, command, held, trouble
 from acceptance.running.results import Room, compare, run_in, shown
 from acceptance.tools.answers import agrees, refusal
 from acceptance.tools.boom import EXAMPLES
+from acceptance.tools.sources import answer
+from share.formats import vbe_oracle
+from share.formats.fsm_oracle import state_machine
+from share.formats.state_walk import cycle, leads, reset_to
+from share.formats.vbe_oracle import FILE
+from share.formats.vhdl_reader import Refused
 
 USAGE = "usage: alliance syf SOURCE.fsm -o NAME [-e o|r|j] [--seed 0..4294967295]\n"
 STYLES, MOST_SEED = "orj", 2**32 - 1

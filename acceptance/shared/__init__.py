@@ -1,0 +1,1 @@
+"""The programs of share/, and the pages that are tried as they stand."""
