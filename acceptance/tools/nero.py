@@ -11,13 +11,13 @@ from typing import NamedTuple
 from acceptance.makers.dense_sources import dense_source
 from acceptance.makers.net_maker import NetMaker
 from acceptance.makers.random_sources import Maker
-from acceptance.meaning import extraction, maze
+from acceptance.meaning import maze
 from acceptance.meaning.rows import Rows, rows_of
-from acceptance.readers import ap
-from acceptance.readers.models import Refusal, library
-from acceptance.readers.vbe_oracle import Ring
-from acceptance.readers.vhdl_reader import Refused
-from acceptance.readers.vst import FILE
+from share.formats import ap, extraction
+from share.formats.models import Refusal, library
+from share.formats.vbe_oracle import Ring
+from share.formats.vhdl_reader import Refused
+from share.formats.vst import FILE
 from acceptance.readers.words import command, held, trouble
 from acceptance.running.places import CELLS, EXAMPLES
 from acceptance.running.results import Room, shown

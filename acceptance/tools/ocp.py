@@ -10,12 +10,12 @@ from typing import NamedTuple
 from acceptance.makers.net_maker import NetMaker, one_change
 from acceptance.meaning import placing
 from acceptance.meaning.rows import Rows, head_lines, rows_of
-from acceptance.readers import ap, cellcheck
-from acceptance.readers.models import Refusal, library
-from acceptance.readers.vbe_oracle import Ring
-from acceptance.readers.vhdl_reader import SUPPLIES, Refused
-from acceptance.readers.vst import FILE, netlist
-from acceptance.readers.words import command, held, of_folder, trouble
+from share.formats import ap, cellcheck
+from share.formats.models import Refusal, library, of_folder
+from share.formats.vbe_oracle import Ring
+from share.formats.vhdl_reader import SUPPLIES, Refused
+from share.formats.vst import FILE, netlist
+from acceptance.readers.words import command, held, trouble
 from acceptance.running.results import Room, shown
 from acceptance.tools.answers import agrees as same_answer
 from acceptance.tools.answers import refusal
