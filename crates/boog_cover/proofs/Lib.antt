@@ -1,0 +1,6 @@
+pub mod Choosing
+pub mod Standing
+pub mod Pruning
+pub mod Having
+pub mod Counting
+pub mod Cycles

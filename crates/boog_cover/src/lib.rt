@@ -1,0 +1,13 @@
+//! Gates of cells that cover a graph.
+#![tactic(auto)]
+
+mod choice;
+mod cover;
+mod law;
+mod needed;
+mod rounds;
+
+pub use choice::{Cost, choices};
+pub use cover::covered;
+pub use law::covered_is_cut;
+pub use needed::prune;

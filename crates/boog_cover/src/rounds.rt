@@ -1,0 +1,116 @@
+// Two rounds of choices.
+ghost use Rattle.std.specs.Prelude.{◌≤◌, ◌+◌, ◌<◌, ◌^◌, map, length, IfOk};
+ghost use Rattle.cell_match.specs.Matches.{IsTable};
+ghost use Rattle.boog_cuts.specs.Cuts.{IsCutTable};
+ghost use Rattle.boog_cover.specs.Choices.{AreChosen};
+
+use crate::choice::choices;
+use boog_cuts::CutTable;
+use cell_match::{CellWord, Gate, Table};
+use std::alloc::{AllocError, Global};
+use subject_graph::{Graph, Node};
+
+fn add_reader(readers: &mut [u32], number: u32) {
+    if let Some(count) = readers.get_mut(number as usize) {
+        *count = count.saturating_add(1);
+    }
+}
+
+fn add_gate(readers: &mut [u32], gate: &Option<Gate>) {
+    if let Some(gate) = gate {
+        for leaf in gate.leaves.as_slice() {
+            add_reader(readers, *leaf);
+        }
+    }
+}
+
+fn is_read(readers: &[u32], number: usize) -> bool {
+    match readers.get(number) {
+        Some(count) => *count > 0,
+        None => false,
+    }
+}
+
+/// How many nodes of the graph read each number. Takes memory for them.
+fn graph_readers(alloc: Global, held: usize, graph: &Graph) -> Result<Vec<u32>, AllocError>
+    requires { held + length graph.now.nodes < 2 ^ 32 }
+{
+    let nodes = graph.nodes();
+    let mut readers = vec![in alloc; 0u32; held + nodes.len()]?;
+    for node in nodes {
+        match node {
+            Node::Fixed(_) => {}
+            Node::Inv(a) => add_reader(&mut readers, *a),
+            Node::Nand(a, b) => {
+                add_reader(&mut readers, *a);
+                add_reader(&mut readers, *b);
+            }
+        }
+    }
+    Ok(readers)
+}
+
+/// How many roots and gates that are needed read each number. Takes memory for them.
+fn cover_readers(
+    alloc: Global,
+    gates: &[Option<Gate>],
+    roots: &[u32],
+) -> Result<Vec<u32>, AllocError> {
+    let mut readers = vec![in alloc; 0u32; gates.len()]?;
+    for root in roots {
+        add_reader(&mut readers, *root);
+    }
+    for behind in 0..gates.len() {
+        let number = gates.len() - 1 - behind;
+        if is_read(&readers, number) {
+            add_gate(&mut readers, &gates[number]);
+        }
+    }
+    Ok(readers)
+}
+
+/// The area of the gates that are read.
+fn area_of(gates: &[Option<Gate>], areas: &[u32], readers: &[u32]) -> u64 {
+    let mut area: u64 = 0;
+    for number in 0..gates.len() {
+        if !is_read(readers, number) {
+            continue;
+        }
+        if let Some(gate) = &gates[number] {
+            if let Some(own) = areas.get(gate.cell as usize) {
+                area = area.saturating_add(*own as u64);
+            }
+        }
+    }
+    area
+}
+
+/// The gates of two rounds, of which the first shares a node's cost among those that read it in the graph, and the second among
+/// those that read it in the first's cover; those of less area. Takes memory for both.
+pub(crate) fn chosen_twice<const K: usize>(
+    alloc: Global,
+    cells: &[CellWord],
+    areas: &[u32],
+    table: &Table,
+    cuts: &CutTable<K>,
+    held: u32,
+    graph: &Graph,
+    roots: &[u32],
+) -> Result<Vec<Option<Gate>>, AllocError>
+    requires few { K ≤ 6 }
+    requires table { IsTable cells.now table.now.maps.items }
+    requires cuts { IsCutTable held graph.now.nodes (map (λ v. v.items) cuts.now.cuts.items) }
+    requires numbers { held + length graph.now.nodes < 2 ^ 32 }
+    ensures { IfOk result (λ gates. AreChosen cells.now held graph.now.nodes (map (λ v. v.items) cuts.now.cuts.items) gates.items) }
+{
+    let in_graph = graph_readers(alloc, held as usize, graph)?;
+    let first = choices(alloc, cells, areas, table, cuts, held, graph, &in_graph)?;
+    let in_first = cover_readers(alloc, &first, roots)?;
+    let second = choices(alloc, cells, areas, table, cuts, held, graph, &in_first)?;
+    let in_second = cover_readers(alloc, &second, roots)?;
+    if area_of(&second, areas, &in_second) < area_of(&first, areas, &in_first) {
+        Ok(second)
+    } else {
+        Ok(first)
+    }
+}

@@ -1,0 +1,9 @@
+//! Cuts of the nodes of a graph.
+#![tactic(auto)]
+
+mod merge;
+mod nodes;
+mod table;
+
+pub use nodes::KEPT;
+pub use table::{CutTable, cuts};

@@ -1,0 +1,4 @@
+pub mod Cover
+pub mod Tight
+pub mod Kept
+pub mod Uses
