@@ -5,14 +5,15 @@ its language needs it is a fault of that file, and nothing is written. The line 
 import re
 
 from acceptance.running.case_file import Case
-from acceptance.running.places import EXAMPLES, ROWS
+from acceptance.running.places import ROWS
 from acceptance.running.results import Room, compare, shown
+from acceptance.tools import syf
 from acceptance.tools.table import TOOLS
 
 FAULT, LIBRARY = 2, 3
 FLOW, OCP, NERO = "flow-layouts/one-inverter", "ocp-runs/one-inverter", "nero-runs/one-inverter"
 ENDS = {"vbe": b";", "vst": b";", "fsm": b";", "pat": b";", "ap": b"F"}
-PATTERNS = b"-- one pattern\nin i;\nout nq;\nbegin\np : 0 ?1;\n: 1 ?0;\nend;\n"
+PATTERNS = "in {0};\nout {1};\nbegin\n< 0 ns> p : 0 ?1;\n< 10 ns> : 1 ?0;\nend;\n"
 # the words, the case that has the files, and the file that is cut
 RUNS = [
     ("flow row1.vbe -l lib -o n --tracks", FLOW, "row1.vbe"),
@@ -41,7 +42,8 @@ RUNS = [
 def files_of(case):
     """The files of a case and those that it writes, and sources for the tools that it doesn't show."""
     found = Case(ROWS / f"{case}.txt")
-    files = {**found.before, **found.after, "s.fsm": (EXAMPLES / "lock/lock.fsm").read_bytes(), "t.pat": PATTERNS}
+    names = ("i", "nq") if "row1.vbe" in found.before else ("a", "y")
+    files = {**found.before, **found.after, "s.fsm": syf.ring(2), "t.pat": PATTERNS.format(*names).encode()}
     for name, other in (("row1.vbe", "o.vbe"), ("r.vst", "o.vst")):
         if name in files:
             files[other] = files[name]

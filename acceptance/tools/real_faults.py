@@ -20,7 +20,7 @@ from acceptance.tools.flow import FIVE
 SMALL, LARGE = 20, 300
 FILE, MEMORY, LIMIT = 7, 8, 9
 SHORT = 1048576
-PATTERNS = b"in ck;\nin x (3 downto 0) X;\nout y (3 downto 0) X;\nbegin\n< 0 ns> p : 0 ?0 ?*;\nend;\n"
+PATTERNS = b"in ck;\nin x (3 downto 0) X;\nout y (3 downto 0) X;\nbegin\n< 0 ns> p : 0 0 ?*;\n< 5 ns> : 1 a ?*;\nend;\n"
 MOST_MEMORY, MEMORY_SIZES, MEMORY_STEP = 4 << 30, 20, 1 << 16
 REWRITTEN = 5
 ENDINGS = {"flow": ["ap"], "gen": ["vbe", "ap"], "syf": ["vbe"], "boom": ["vbe"], "boog": ["vst"], "loon": ["vst"], "ocp": ["ap"], "nero": ["ap"]}
