@@ -6,10 +6,11 @@ Usage: acceptance/run.py PROGRAM FRONT_PROBE [CELL_PROBE] [--many] [--seed N]
 PROGRAM is `alliance`, FRONT_PROBE the program that reads fronts of VHDL texts, CELL_PROBE the one that reads ap files and
 libraries, of which cells.py says what it prints. Run are the cases of crates/cases/data and of
 acceptance/large, each as its file says; each again with a folder in the place of every file that it reads or writes, with
-that file missing, and on a full disk; the second readers on the same cases; and then the texts that each tool's module makes. Each
-language has one second reader, written from docs/FORMATS.md in this language; nothing that a program printed is wanted of it. What the
-documents name is looked up too, by bench/claims.py, and bench/headline.py has to write docs/HEADLINE.md as it stands. The commands of README,
-TOUR and other pages are run and compared with what the pages show, and the programs of share/ are tried.
+that file missing, and with a full output; each tool where something of the machine fails (tools/real_faults.py); the second readers on
+the same cases; and then the texts that each tool's module makes. Each language has one second reader, written from docs/FORMATS.md in this
+language; nothing that a program printed is wanted of it. What the documents name is looked up too, by bench/claims.py, and
+bench/headline.py has to write docs/HEADLINE.md as it stands. The commands of README, TOUR and other pages are run and compared with what
+the pages show, and the programs of share/ are tried.
 
 --many makes ten times as many random texts. What can't be run on this machine is skipped with a line. The last line is
 `N passed, N failed, N skipped`.
@@ -27,6 +28,7 @@ from acceptance.running import documents, front  # noqa: E402
 from acceptance.running.case_file import case_files  # noqa: E402
 from acceptance.running.cases import check_case  # noqa: E402
 from acceptance.running.results import Results  # noqa: E402
+from acceptance.tools import cut_files, real_faults  # noqa: E402
 from acceptance.tools.table import TOOLS  # noqa: E402
 
 MOST_SHOWN = 40
@@ -39,6 +41,8 @@ def jobs_of(program, probe, cell_probe, seed, times):
     yield from programs.jobs(program)
     yield from pictures.jobs()
     yield from installed.jobs(program)
+    yield from real_faults.jobs(program)
+    yield from cut_files.jobs(program)
     yield from front.jobs(probe, seed, times)
     yield from cells.jobs(cell_probe, seed, cells.COUNT * times)
     for tool in TOOLS.values():

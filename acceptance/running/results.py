@@ -58,9 +58,10 @@ class Room:
                 found[name] = path.read_bytes()
         return found
 
-    def run(self, program, words, out=subprocess.PIPE):
-        """The status and the printed bytes; None and why where it doesn't end or something stands on standard error."""
-        how = {"cwd": self.folder, "stdin": subprocess.DEVNULL, "stdout": out, "stderr": subprocess.PIPE, "timeout": SECONDS}
+    def run(self, program, words, out=subprocess.PIPE, **more):
+        """The status and the printed bytes; None and why where it doesn't end or something stands on standard error. What is more goes to
+        `subprocess`."""
+        how = {"cwd": self.folder, "stdin": subprocess.DEVNULL, "stdout": out, "stderr": subprocess.PIPE, "timeout": SECONDS, **more}
         try:
             done = subprocess.run([program, *words], **how)
         except subprocess.TimeoutExpired:
