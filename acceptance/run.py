@@ -28,6 +28,7 @@ from acceptance.running import documents, front  # noqa: E402
 from acceptance.running.case_file import case_files  # noqa: E402
 from acceptance.running.cases import check_case  # noqa: E402
 from acceptance.running.results import Results  # noqa: E402
+from acceptance.shared import installed, pages, pictures, programs  # noqa: E402
 from acceptance.tools import cut_files, real_faults  # noqa: E402
 from acceptance.tools.table import TOOLS  # noqa: E402
 
