@@ -7,7 +7,6 @@ import resource
 import signal
 import sys
 import tempfile
-import time
 
 sys.path[0] = str(pathlib.Path(__file__).resolve().parent.parent)
 sys.path.append(str(pathlib.Path(__file__).resolve().parent))
@@ -19,23 +18,19 @@ MOST_SECONDS, MOST_MEGABYTES, MOST_GROWTH, TELLING_SECONDS, TELLING_MEGABYTES = 
 
 
 def run(program, words, folder, seconds):
-    """Status or None, seconds and megabytes of one run."""
-    begun = time.monotonic()
+    """Status, or None where it is cut off, and seconds and megabytes of one run: processor time, so that other work on the machine doesn't
+    count."""
     child = os.fork()
     if child == 0:
         os.chdir(folder)
         resource.setrlimit(resource.RLIMIT_AS, (MEMORY, MEMORY))
-        out = os.open(os.devnull, os.O_WRONLY)
-        os.dup2(out, 1)
+        resource.setrlimit(resource.RLIMIT_CPU, (seconds, seconds))
+        os.dup2(os.open(os.devnull, os.O_WRONLY), 1)
         os.execv(program, [program, *words])
-    signal.signal(signal.SIGALRM, lambda *_: os.kill(child, signal.SIGKILL))
-    signal.setitimer(signal.ITIMER_REAL, seconds)
     _, status, used = os.wait4(child, 0)
-    signal.setitimer(signal.ITIMER_REAL, 0)
-    took = time.monotonic() - begun
     code = os.waitstatus_to_exitcode(status)
-    # processor time, so that other work on the machine doesn't count
-    return (None if code == -signal.SIGKILL and took >= seconds else code), used.ru_utime + used.ru_stime, used.ru_maxrss // 1024
+    is_cut_off = code in (-signal.SIGKILL, -signal.SIGXCPU)
+    return None if is_cut_off else code, used.ru_utime + used.ru_stime, used.ru_maxrss // 1024
 
 
 def growth(before, now, size_before, size):
@@ -77,7 +72,7 @@ def measure(program, name, seconds, steps):
 
 def main(words):
     program, *more = words
-    seconds = float(more.pop(0)) if more and more[0].replace(".", "").isdigit() else 60
+    seconds = int(more.pop(0)) if more and more[0].isdigit() else 60
     steps = int(os.environ.get("STEPS", "99"))
     print(f"  {'number':>8} {'bytes':>10} {'status':>8} {'seconds':>8} {'MB':>8} {'growth':>8} {'of MB':>8}")
     missed = sum(measure(program, name, seconds, steps) for name in FAMILIES if not more or any(word in name for word in more))

@@ -33,7 +33,9 @@ def in_a_chain(n):
 
 def crossing(n):
     """Half lie one beside the other, and half across all of these."""
-    return layout(line for k in range(n // 2) for line in (f"S 0,{400 * k},{200 * n},{400 * k},200,*,RIGHT,ALU2", f"S {400 * k},0,{400 * k},{200 * n},200,*,UP,ALU3"))
+    side = 200 * n
+    along = (f"S 0,{400 * k},{side},{400 * k},200,*,RIGHT,ALU2" for k in range(n // 2))
+    return layout([*along, *(f"S {400 * k},0,{400 * k},{side},200,*,UP,ALU3" for k in range(n // 2))])
 
 
 def nearly_touching(n):
