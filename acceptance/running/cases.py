@@ -26,6 +26,8 @@ def check_case(results, program, path):
         for number, (deed, file) in enumerate(case.calls or []):
             if deed == "read" and ("write", file) in case.calls[:number]:
                 continue  # what a run has written itself can't be in its way
+            if deed == "write" and ("read", file) in case.calls[:number]:
+                continue  # nor is a folder written to in whose place a file was to be read: that read fails first
             troubles(results, program, case, words, (number, deed, file))
 
 

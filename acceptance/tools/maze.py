@@ -21,6 +21,8 @@ MACHINES, STATE_MACHINES, WIDE, DENSE, CIRCUITS, CHECKED, TIGHT = 60, 10, 8, 12,
 # of circuits of this size on four metals, placed without moves, some get stuck
 STUCK_SIZE, FEW_METALS = 300, [*ROUTING, "--metals", "4", "--moves", "0"]
 
+LIBRARY = 3  # the status of a refused cell
+
 
 def routed(words, metals=None, placed=ROUTING):
     """Words of flow over rows, if nothing else is said over one."""
@@ -139,10 +141,13 @@ FOR_TRACKS = ROWS / "flow-libraries/pins-above-each-other.txt"
 
 
 def check_case(results, program, path):
-    """A case with tracks, over a row: a refusal is the same, and so is the report on a layout, but for its length."""
+    """A case with tracks, over a row: a refusal is the same, and so is the report on a layout, but for its length. The tenth cause of a cell
+    is asked for with tracks alone."""
     case = Case(path)
     for words in case.words:
         if words[0] != "flow" or "--tracks" not in words or any(word.startswith("--rows") for word in words):
+            continue
+        if case.status == LIBRARY and case.printed.endswith(b" 10\n"):
             continue
         at = words.index("--tracks")
         words = [*words[:at], *ROUTING, *words[at + 1 :]]

@@ -292,6 +292,9 @@ def check_memory(results, program, plain):
                 files.pop(name)
         wrong = sorted(name for name in {*files, *plain.files} if files.get(name) != plain.files.get(name))
         results.note(f"{title}: the files", not wrong, f"these differ: {wrong}")
+    if refused == 0 and top - floor <= 2 * MEMORY_STEP:
+        results.skip(title_of(plain, "takes hardly more memory than its usage line, so that no limit makes it run out"))
+        return
     results.note(title_of(plain, "with too little memory"), refused > 0, "no limit made memory run out")
 
 
