@@ -19,3 +19,8 @@ growth() {
 megabytes() {
   [ "$1" = - ] && echo - || echo $(($1 / 1024))
 }
+
+# steps_of FILE: the length that a report has, in steps of 500, or -.
+steps_of() {
+  awk '$1 == "length" { print $2 / 500; found = 1 } END { if (!found) print "-" }' "$1"
+}
