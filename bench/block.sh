@@ -7,11 +7,11 @@
 # CELLS and EXPONENTS in the environment are other lists of numbers, METALS another number than 6, ROWS so many rows in place of as many as
 # make the block about square, SEED another netlist than that of seed 1. An empty GRAYWOLF leaves graywolf out.
 #
-# Columns: cells that are asked for (some ports get a buffer besides); exponent; seconds and megabytes of ocp; hp, the length of its placement
-# in steps of the grid (half perimeters, docs/formats/blocks.md), and with `--moves 0`, where only neighbours are exchanged; seconds and
-# megabytes of nero; nodes of the grid; nets that are routed, of how many; length of the wires in steps; vias but for those on pins; hp of
-# graywolf's rows, drawn by our rules with the ports in our columns, and over the points where graywolf has them; its seconds. Where a
-# net is stuck nero's numbers are those of NAME_part.ap, and the line below says which.
+# Columns: cells that are asked for (some ports get a buffer besides); exponent; seconds (all are of the processor) and megabytes of ocp;
+# hp, the length of its placement in steps of the grid (half perimeters, docs/formats/blocks.md), and with `--moves 0`, where only neighbours
+# are exchanged; seconds and megabytes of nero; nodes of the grid; nets that are routed, of how many; length of the wires in steps; vias but
+# for those on pins; hp of graywolf's rows, drawn by our rules with the ports in our columns, and over the points where graywolf has them; its
+# seconds. Where a net is stuck nero's numbers are those of NAME_part.ap, and the line below says which.
 set -eu
 
 program=${1:-}
@@ -34,25 +34,17 @@ graywolf=$(command -v "${GRAYWOLF-graywolf}" || true)
 [ -n "$graywolf" ] || echo "skipped: there is no graywolf, so its columns are empty"
 row='%6s %5s  %7s %5s %8s %8s  %7s %5s  %9s %6s %6s %8s %7s  %8s %8s %7s\n'
 
-# stuck_or_whole OUT WORDS..: as measured, and also where the run ends with status 6, a net being stuck.
-stuck_or_whole() {
-  local out=$1 status=0
-  shift
-  timeout "$most" /usr/bin/time -q -f '%e %M' -o times "$@" >"$out" 2>errors || status=$?
-  [ "$status" = 0 ] || [ "$status" = 6 ] && tail -1 times || echo "- -"
-}
-
 # block CELLS EXPONENT: places and routes a netlist, and prints the row.
 block() {
   local took memory hp descent=- n_took=- n_memory=- nodes=- done=- nets=- steps=- vias=- g_hp=- g_own=- g_took=- laid=r.ap
   rm -f p.ap r.ap r_part.ap
   python3 "$here/rent_netlist.py" "$1" "$2" "${SEED:-1}" >n.vst
-  read -r took memory < <(measured printed "$program" ocp n.vst -l lib -o d "${rows[@]}" --moves 0)
+  read -r took memory < <(spent printed "$program" ocp n.vst -l lib -o d "${rows[@]}" --moves 0)
   descent=$(steps_of printed)
-  read -r took memory < <(measured printed "$program" ocp n.vst -l lib -o p "${rows[@]}")
+  read -r took memory < <(spent printed "$program" ocp n.vst -l lib -o p "${rows[@]}")
   hp=$(steps_of printed)
   if [ -f p.ap ]; then
-    read -r n_took n_memory < <(stuck_or_whole routing "$program" nero n.vst -p p.ap -l lib -o r --metals "$metals")
+    read -r n_took n_memory < <(spent routing "$program" nero n.vst -p p.ap -l lib -o r --metals "$metals")
     [ -f r.ap ] || laid=r_part.ap
     if [ -f "$laid" ]; then
       read -r nodes done nets steps vias < <(python3 "$here/route.py" --netlist n.vst "$laid" lib "$metals")

@@ -13,10 +13,10 @@ SOURCE.vst is the netlist; where it isn't there it is written, as it is read fro
 """
 import pathlib
 import re
+import resource
 import subprocess
 import sys
 import tempfile
-import time
 
 sys.path.append(str(pathlib.Path(__file__).resolve().parent))
 from route import block_in  # noqa: E402
@@ -97,15 +97,14 @@ def port_lines(block, nets):
 
 
 def placed(block, graywolf):
-    """The seconds, and for each name the (left, foot, right, top, orientation, row) of its line."""
+    """The seconds of the processor, and for each name the (left, foot, right, top, orientation, row) of its line."""
     nets = wired(block)
     with tempfile.TemporaryDirectory() as folder:
         room = pathlib.Path(folder)
         (room / "n.cel").write_text("\n".join([*cell_lines(block, nets), *port_lines(block, nets), ""]))
         (room / "n.par").write_text(PARAMETERS.format(aspect=10 * block.count / block.columns, rows=block.count))
-        begin = time.monotonic()
         done = subprocess.run([graywolf, "-n", "n"], cwd=room, stdin=subprocess.DEVNULL, stdout=subprocess.PIPE, stderr=subprocess.STDOUT, text=True)
-        seconds = time.monotonic() - begin
+        used = resource.getrusage(resource.RUSAGE_CHILDREN)
         written = room / "n.pl1"
         rows = {m[1]: tuple(map(int, m.groups()[1:])) for m in PLACED.finditer(written.read_text())} if written.exists() else {}
     names = {f"{CELL}{number}": i.name for number, i in enumerate(block.n.instances)}
@@ -113,7 +112,7 @@ def placed(block, graywolf):
     if missing:
         faults = [line for line in done.stdout.splitlines() if "error" in line.lower() or "FATAL" in line]
         raise Failed(f"status {done.returncode}, {len(missing)} cells aren't placed: {' '.join(faults)[:400]}")
-    return seconds, {names.get(name, name): where for name, where in rows.items()}
+    return used.ru_utime + used.ru_stime, {names.get(name, name): where for name, where in rows.items()}
 
 
 def by_rule(block, rows):

@@ -21,7 +21,7 @@
 # steps; vias but for those on pins; how many times larger the layout with tracks is; seconds, steps, vias and unrouted nets of qrouter.
 # Where a net is stuck the numbers are those of NAME_part.ap. Wires and nodes are counted by route.py, the second router's reading. Then of
 # placing alone: hp, the length of the placement in steps (half perimeters, docs/formats/blocks.md); how long it is with `--moves 0`, where
-# only neighbours are exchanged; the seconds of ocp, on the netlist of the layout; hp of graywolf's rows, drawn by our rules with the ports
+# only neighbours are exchanged; the processor's seconds of ocp, on the netlist of the layout; hp of graywolf's rows, drawn by our rules with the ports
 # in our columns; hp over the points where graywolf has them; its seconds.
 set -eu
 
@@ -115,11 +115,11 @@ routed() {
 ocp_alone() {
   local length memory
   [ -f n.vst ] || return 0
-  read -r ocp_took memory < <(measured printed "$program" ocp n.vst -l lib -o o "${rows[@]}")
+  read -r ocp_took memory < <(spent printed "$program" ocp n.vst -l lib -o o "${rows[@]}")
   [ "$ocp_took" != - ] || return 0
   length=$(steps_of printed)
   [ "$length" = "$hp" ] || echo "the length of ocp's placement is $length, that of the layout $hp"
-  read -r _ memory < <(measured printed "$program" ocp n.vst -l lib -o o "${rows[@]}" --moves 0)
+  read -r _ memory < <(spent printed "$program" ocp n.vst -l lib -o o "${rows[@]}" --moves 0)
   descent=$(steps_of printed)
 }
 
