@@ -2,11 +2,14 @@
 """Measures a layout that is routed over rows, for route.sh.
 
 Usage: bench/route.py LAYOUT.ap LIBRARY [TRACKS.ap [METALS]]
+       bench/route.py --netlist SOURCE.vst LAYOUT.ap LIBRARY METALS
        bench/route.py --probe LINE SECONDS KILOBYTES BARE
 
 Prints on one line: nodes of the grid; nets that are routed, and all nets; the length of wires in steps of 500; vias but for those on pins;
 the area beside that of TRACKS.ap, as how many times that is as large, or -. In a layout without marks all nets are routed. Straps
 and rails don't count.
+
+With --netlist the same without the area, by the netlist that is routed; it isn't read from the layout.
 
 With --probe LINE is one of maze_probe, and BARE the seconds that it takes over the same grid without nets, or -. Prints what the line
 says; seconds, megabytes, and bytes for a node; nodes a second where there is no net; paths a second beyond BARE where all are routed.
@@ -17,8 +20,7 @@ import sys
 sys.path.append(str(pathlib.Path(__file__).resolve().parent.parent))
 from acceptance.meaning import maze  # noqa: E402
 from acceptance.meaning.rows import Rows, head_lines, rows_of  # noqa: E402
-from share.formats import ap, cellcheck, extraction, models  # noqa: E402
-from share.formats.vst import Netlist  # noqa: E402
+from share.formats import ap, cellcheck, extraction, models, vst  # noqa: E402
 
 
 def block_of(figure, folder):
@@ -27,7 +29,16 @@ def block_of(figure, folder):
     if any(item[0] == "R" for item in figure.items):
         return Rows(maze.marked(figure, cells, of_name), cells, rows_of(figure))
     read = extraction.extracted(figure, extraction.flat_of(figure, cells), of_name)
-    return Rows(Netlist(read.name, read.all_ports, read.instances), cells, rows_of(figure))
+    return Rows(vst.Netlist(read.name, read.all_ports, read.instances), cells, rows_of(figure))
+
+
+def block_in(figure, folder, source):
+    """The block of a layout whose netlist is in a file, or is read from the layout where there is none."""
+    if not source or not source.exists():
+        return block_of(figure, folder)
+    files = cellcheck.folder(folder)
+    of_name = models.library({f"lib/{name}": text for name, text in files.items()}, "lib")
+    return Rows(vst.netlist(source.read_bytes(), of_name), cellcheck.cells(files, False), rows_of(figure))
 
 
 def area(figure):
@@ -35,9 +46,9 @@ def area(figure):
     return (right - left) * (top - foot)
 
 
-def numbers(path, folder, tracks, metals):
+def numbers(path, folder, tracks, metals, source=None):
     figure = ap.read(path.read_bytes())
-    block = block_of(figure, folder)
+    block = block_in(figure, folder, source)
     trees = maze.trees_of(block, figure.items[len(head_lines(block)) - 3 :], metals)
     edges = [edge for tree in trees for edge in tree.edges]
     steps = sum(a[0] == b[0] for a, b in edges)
@@ -66,6 +77,10 @@ def probe_numbers(line, seconds, kilobytes, bare):
 def main():
     if len(sys.argv) == 6 and sys.argv[1] == "--probe":
         print(*probe_numbers(*sys.argv[2:]))
+        return
+    if len(sys.argv) == 6 and sys.argv[1] == "--netlist":
+        source, path, folder, metals = sys.argv[2:]
+        print(*numbers(pathlib.Path(path), folder, None, int(metals), pathlib.Path(source))[:-1])
         return
     if len(sys.argv) not in (3, 4, 5):
         sys.exit(__doc__)

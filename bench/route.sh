@@ -1,8 +1,9 @@
 #!/usr/bin/env bash
 # Measures the routing over rows of `alliance flow` on the examples, on circuits as courses have them (multipliers to 8 bits, ALUs of 8 and
 # 16, encoders, decoders, filters, counters, state machines) and on generated circuits of 50 to 16,000 gates, over the row library cells/;
-# and beside it, on the same placement and pins, qrouter, where it is installed. Before that, where PROBE is given, the program maze_probe,
-# it measures the routing alone over empty grids of 5 and of 50 million nodes: no net, one net of 10,000 pins, nets of two pins.
+# and beside it, on the same placement and pins, qrouter, and on the same netlist and number of rows graywolf, which places, where they are
+# installed. Before that, where PROBE is given, the program maze_probe, it measures the routing alone over empty grids of 5 and of 50 million
+# nodes: no net, one net of 10,000 pins, nets of two pins.
 #
 # Usage: bench/route.sh PROGRAM [SECONDS [PROBE]]      (a run that takes longer than SECONDS, 300 at first, is cut off)
 #        bench/route.sh - SECONDS PROBE                the routing alone
@@ -18,7 +19,10 @@
 # Columns of PROGRAM: the source; seconds and megabytes of flow with tracks, which has all stages but this routing; seconds and megabytes
 # over rows; nodes of the grid; bytes of the difference in memory for a node; nets that are routed, of how many; length of the wires in
 # steps; vias but for those on pins; how many times larger the layout with tracks is; seconds, steps, vias and unrouted nets of qrouter.
-# Where a net is stuck the numbers are those of NAME_part.ap. Wires and nodes are counted by route.py, the second router's reading.
+# Where a net is stuck the numbers are those of NAME_part.ap. Wires and nodes are counted by route.py, the second router's reading. Then of
+# placing alone: hp, the length of the placement in steps (half perimeters, docs/formats/blocks.md); how long it is with `--moves 0`, where
+# only neighbours are exchanged; the processor's seconds of ocp, on the netlist of the layout; hp of graywolf's rows, drawn by our rules with the ports
+# in our columns; hp over the points where graywolf has them; its seconds.
 set -eu
 
 program=${1:-}
@@ -81,13 +85,16 @@ if [ "$status" = 1 ]; then
 fi
 qrouter=$(command -v qrouter || true)
 [ -n "$qrouter" ] || echo "skipped: there is no qrouter, so its columns are empty"
+graywolf=$(command -v graywolf || true)
+[ -n "$graywolf" ] || echo "skipped: there is no graywolf, so its columns are empty"
 
-row='%-16s %7s %5s  %7s %5s  %9s %6s  %6s %6s %8s %7s %6s  %7s %8s %7s %5s\n'
+row='%-16s %7s %5s  %7s %5s  %9s %6s  %6s %6s %8s %7s %6s  %7s %8s %7s %5s  %8s %8s %7s  %8s %8s %7s\n'
 
 # routed NAME FILE: runs flow on FILE both ways and prints the row.
 routed() {
   local tracks tracks_memory took memory laid=r.ap nodes=- done=- nets=- steps=- vias=- saved=- bytes=- q_took=- q_steps=- q_vias=- q_left=-
-  rm -f t.ap r.ap r_part.ap
+  local hp=- descent=- ocp_took=- g_hp=- g_own=- g_took=-
+  rm -f t.ap r.ap r_part.ap n.vst
   read -r tracks tracks_memory < <(measured printed "$program" flow "$2" -l lib -o t --tracks --fanout "$fanout")
   read -r took memory < <(measured_any printed "$program" flow "$2" -l lib -o r "${rows[@]}" --metals "$metals" --fanout "$fanout")
   [ -f r.ap ] || laid=r_part.ap
@@ -97,9 +104,23 @@ routed() {
     if [ -n "$qrouter" ]; then
       read -r q_took q_steps q_vias q_left < <(timeout "$most" python3 "$here/route_beside.py" "$laid" lib "$metals" "$qrouter" || echo - - - -)
     fi
+    read -r hp g_hp g_own g_took < <(timeout "$most" python3 "$here/place_beside.py" "$laid" lib "${graywolf:--}" n.vst || echo - - - -)
+    ocp_alone
   fi
   printf "$row" "$1" "$tracks" "$(megabytes "$tracks_memory")" "$took" "$(megabytes "$memory")" "$nodes" "$bytes" "$done" "$nets" "$steps" "$vias" \
-    "$saved" "$q_took" "$q_steps" "$q_vias" "$q_left"
+    "$saved" "$q_took" "$q_steps" "$q_vias" "$q_left" "$hp" "$descent" "$ocp_took" "$g_hp" "$g_own" "$g_took"
+}
+
+# ocp_alone: places the netlist of the layout with ocp, which has to give the length of the layout, and with exchanges of neighbours alone.
+ocp_alone() {
+  local length memory
+  [ -f n.vst ] || return 0
+  read -r ocp_took memory < <(spent printed "$program" ocp n.vst -l lib -o o "${rows[@]}")
+  [ "$ocp_took" != - ] || return 0
+  length=$(steps_of printed)
+  [ "$length" = "$hp" ] || echo "the length of ocp's placement is $length, that of the layout $hp"
+  read -r _ memory < <(spent printed "$program" ocp n.vst -l lib -o o "${rows[@]}" --moves 0)
+  descent=$(steps_of printed)
 }
 
 # measured_any OUT WORDS..: as measured, and also where the run ends with status 6, a net being stuck.
@@ -110,8 +131,8 @@ measured_any() {
   [ "$status" = 0 ] || [ "$status" = 6 ] && tail -1 times || echo "- -"
 }
 
-printf "$row" '' tracks '' rows '' '' bytes nets '' '' '' '' qrouter '' '' ''
-printf "$row" source seconds MB seconds MB nodes a.node routed of steps vias area seconds steps vias left
+printf "$row" '' tracks '' rows '' '' bytes nets '' '' '' '' qrouter '' '' '' placing moves ocp graywolf '' ''
+printf "$row" source seconds MB seconds MB nodes a.node routed of steps vias area seconds steps vias left hp 0 seconds hp own seconds
 for path in *.vbe *.fsm; do
   routed "${path%.*}" "$path"
 done
