@@ -50,7 +50,7 @@ block() {
       read -r nodes done nets steps vias < <(python3 "$here/route.py" --netlist n.vst "$laid" lib "$metals")
     fi
     if [ -n "$graywolf" ]; then
-      read -r _ g_hp g_own g_took < <(timeout "$most" python3 "$here/place_beside.py" p.ap lib "$graywolf" n.vst || echo - - - -)
+      read -r _ g_hp g_own g_took < <(python3 "$here/place_beside.py" p.ap lib "timeout $most $graywolf" n.vst || echo - - - -)
     fi
   fi
   printf "$row" "$1" "$2" "$took" "$(megabytes "$memory")" "$hp" "$descent" "$n_took" "$(megabytes "$n_memory")" "$nodes" "$done" "$nets" \

@@ -7,7 +7,8 @@ Prints on one line, in steps of 500: the length of the layout's placement, which
 their points (docs/formats/blocks.md); that of graywolf's placement by the same rule; the same sum over the points where graywolf has
 them; its seconds. By the same rule its cells stand in its rows and in its order, drawn as blocks.md says: close together, none mirrored
 in x, each port in the column that it has above the highest row. graywolf itself is told to hold the ports at about these columns of the upper
-edge, and may mirror cells. Where it is - or fails, its three are -, and why is told on standard error.
+edge, and may mirror cells. Where it is - or fails, its three are -, and why is told on standard error; it
+may be several words, `timeout 300 graywolf`.
 
 SOURCE.vst is the netlist; where it isn't there it is written, as it is read from the layout. Lengths in .cel are a tenth of a step.
 """
@@ -98,12 +99,14 @@ def port_lines(block, nets):
 
 def placed(block, graywolf):
     """The seconds of the processor, and for each name the (left, foot, right, top, orientation, row) of its line."""
+    if block.count == 1:
+        raise Failed("it doesn't end on a block of one row")
     nets = wired(block)
     with tempfile.TemporaryDirectory() as folder:
         room = pathlib.Path(folder)
         (room / "n.cel").write_text("\n".join([*cell_lines(block, nets), *port_lines(block, nets), ""]))
         (room / "n.par").write_text(PARAMETERS.format(aspect=10 * block.count / block.columns, rows=block.count))
-        done = subprocess.run([graywolf, "-n", "n"], cwd=room, stdin=subprocess.DEVNULL, stdout=subprocess.PIPE, stderr=subprocess.STDOUT, text=True)
+        done = subprocess.run([*graywolf.split(), "-n", "n"], cwd=room, stdin=subprocess.DEVNULL, stdout=subprocess.PIPE, stderr=subprocess.STDOUT, text=True)
         used = resource.getrusage(resource.RUSAGE_CHILDREN)
         written = room / "n.pl1"
         rows = {m[1]: tuple(map(int, m.groups()[1:])) for m in PLACED.finditer(written.read_text())} if written.exists() else {}

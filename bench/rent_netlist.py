@@ -17,8 +17,10 @@ GATES = {
     "nao22_x1": ["i0", "i1", "i2"], "noa22_x1": ["i0", "i1", "i2"], "xr2_x1": ["i0", "i1"],
 }
 WEIGHTS = [20, 30, 14, 8, 8, 6, 5, 5, 4]
-FLIP_FLOP, EACH, TRIED, LEAST = "sff1_x4", 8, 4, 8
-OUTPUTS = {"a2_x2": "q", "o2_x2": "q", "xr2_x1": "q", FLIP_FLOP: "q"}
+FLIP_FLOP, BUFFER = "sff1_x4", "buf_x2"
+# one cell of how many is a flip-flop; among how many drivers an input has the choice; the cells of a least block
+EACH, TRIED, LEAST = 8, 4, 8
+OUTPUTS = {"a2_x2": "q", "o2_x2": "q", "xr2_x1": "q", FLIP_FLOP: "q", BUFFER: "q"}
 
 
 def output(cell):
@@ -59,7 +61,7 @@ class Logic:
             size *= 2
 
     def wires(self):
-        """The drivers of each cell's inputs; those that are read fewer times are taken first."""
+        """The drivers of each cell's inputs."""
         made = []
         for cell, kind in enumerate(self.cells):
             drivers = []
@@ -79,33 +81,41 @@ def shown(logic):
     return [*unread[:: max(1, len(unread) // wanted)], *logic.choose.sample(rest, len(rest))][:wanted]
 
 
+def component_line(cell):
+    inputs = ["i"] if cell == BUFFER else (["ck"] if cell == FLIP_FLOP else []) + pins(cell)
+    ports = "".join(f"{pin} : in bit; " for pin in inputs)
+    return f"component {cell} port ({ports}{output(cell)} : out bit; vdd : in bit; vss : in bit); end component;"
+
+
+def head_lines(logic, outputs):
+    yield "entity n is"
+    yield f"  port (ck : in bit; d : in bit_vector ({logic.width - 1} downto 0);"
+    yield f"    q : out bit_vector ({outputs - 1} downto 0); vdd : in bit; vss : in bit);"
+    yield "end n;"
+    yield "architecture structural of n is"
+    yield from map(component_line, sorted({*logic.cells, BUFFER}))
+    yield f"signal s : bit_vector ({logic.count - 1} downto 0);"
+    yield "begin"
+
+
+def instance_lines(logic, wires, out):
+    """Cells in the order of ranks, and a buffer for each port that shows what others read: an output port can't be read."""
+    names = {cell: f"s({logic.rank[cell]})" if logic.read[cell] else out.get(cell, f"s({logic.rank[cell]})") for cell in range(logic.count)}
+    names |= {-1 - k: f"d({k})" for k in range(logic.width)}
+    for cell in sorted(range(logic.count), key=lambda cell: logic.rank[cell]):
+        kind = logic.cells[cell]
+        maps = [*(["ck => ck"] if kind == FLIP_FLOP else []), *(f"{pin} => {names[one]}" for pin, one in zip(pins(kind), wires[cell]))]
+        yield f"u{logic.rank[cell]} : {kind} port map ({', '.join(maps)}, {output(kind)} => {names[cell]}, vdd => vdd, vss => vss);"
+    for cell, port in out.items():
+        if names[cell] != port:
+            yield f"b{logic.rank[cell]} : {BUFFER} port map (i => {names[cell]}, q => {port}, vdd => vdd, vss => vss);"
+
+
 def text_of(count, exponent, choose):
     logic = Logic(count, exponent, choose)
     wires = logic.wires()
     out = {cell: f"q({k})" for k, cell in enumerate(shown(logic))}
-    # an output can't be read: what it shows has to be a net of its own
-    names = {cell: out[cell] if cell in out and logic.read[cell] == 0 else f"s({logic.rank[cell]})" for cell in range(count)}
-    names |= {-1 - k: f"d({k})" for k in range(logic.width)}
-    order = sorted(range(count), key=lambda cell: logic.rank[cell])
-    used = sorted(set(logic.cells) | {"buf_x2"})
-    ways = {"buf_x2": (["i"], "q")} | {cell: (pins(cell), output(cell)) for cell in set(logic.cells)}
-    lines = [
-        "entity n is", f"  port (ck : in bit; d : in bit_vector ({logic.width - 1} downto 0); q : out bit_vector ({len(out) - 1} downto 0); vdd : in bit; vss : in bit);",
-        "end n;", "architecture structural of n is",
-    ]
-    for cell in used:
-        inputs, way = ways[cell]
-        head = [f"{pin} : in bit; " for pin in (["ck"] if cell == FLIP_FLOP else []) + inputs]
-        lines.append(f"component {cell} port ({''.join(head)}{way} : out bit; vdd : in bit; vss : in bit); end component;")
-    lines += [f"signal s : bit_vector ({count - 1} downto 0);", "begin"]
-    for cell in order:
-        kind = logic.cells[cell]
-        maps = [*(["ck => ck"] if kind == FLIP_FLOP else []), *(f"{pin} => {names[one]}" for pin, one in zip(pins(kind), wires[cell]))]
-        lines.append(f"u{logic.rank[cell]} : {kind} port map ({', '.join(maps)}, {output(kind)} => {names[cell]}, vdd => vdd, vss => vss);")
-    for cell, port in out.items():
-        if names[cell] != port:
-            lines.append(f"b{logic.rank[cell]} : buf_x2 port map (i => {names[cell]}, q => {port}, vdd => vdd, vss => vss);")
-    return "\n".join([*lines, "end structural;", ""])
+    return "\n".join([*head_lines(logic, len(out)), *instance_lines(logic, wires, out), "end structural;", ""])
 
 
 def main():

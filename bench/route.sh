@@ -104,7 +104,7 @@ routed() {
     if [ -n "$qrouter" ]; then
       read -r q_took q_steps q_vias q_left < <(timeout "$most" python3 "$here/route_beside.py" "$laid" lib "$metals" "$qrouter" || echo - - - -)
     fi
-    read -r hp g_hp g_own g_took < <(timeout "$most" python3 "$here/place_beside.py" "$laid" lib "${graywolf:--}" n.vst || echo - - - -)
+    read -r hp g_hp g_own g_took < <(python3 "$here/place_beside.py" "$laid" lib "${graywolf:+timeout $most }${graywolf:--}" n.vst || echo - - - -)
     ocp_alone
   fi
   printf "$row" "$1" "$tracks" "$(megabytes "$tracks_memory")" "$took" "$(megabytes "$memory")" "$nodes" "$bytes" "$done" "$nets" "$steps" "$vias" \
