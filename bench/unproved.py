@@ -28,6 +28,9 @@ def command_of(process):
 
 
 def is_program(path):
+    """Whether it is a file that the machine can run; a pipe isn't opened, since that would wait."""
+    if not os.path.isfile(path):
+        return False
     try:
         with open(path, "rb") as file:
             return file.read(4) == ELF
