@@ -56,6 +56,7 @@ verdict_text (verdict.Different name) = codes "different " ++ name_text name
 verdict_text (verdict.Names name) = codes "names " ++ name_text name
 verdict_text (verdict.Unequal name) = codes "differs " ++ name_text name
 verdict_text (verdict.Broken lines) = lines
+verdict_text (verdict.Near shapes) = codes "near " ++ shapes
 
 -- breaches, and two functions that differ, are said without the tool's word
 abbrev pub is_finding : Verdict → Bool

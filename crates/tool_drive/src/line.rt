@@ -92,6 +92,7 @@ fn verdict(alloc: Global, out: &mut FileBytes, verdict: &Verdict) -> Result<(), 
             name(alloc, out, item)
         }
         Verdict::Broken(lines) => out.append(lines.as_bytes()),
+        Verdict::Near(shapes) => with_name(out, b"near ", shapes.as_bytes()),
     }
 }
 

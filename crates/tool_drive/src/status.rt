@@ -44,6 +44,8 @@ pub enum Verdict {
     Unequal(Name),
     /// The lines of a layout's breaches, without the end of the last.
     Broken(FileBytes),
+    /// The metal and the two rectangles of shapes that grow too near each other, as they are printed.
+    Near(FileBytes),
 }
 
 /// How a call ends. Every tool may answer `Accepted`, `Usage`, `File`, `Memory` and `Limit`, and `Source` where it is given one. Those

@@ -130,6 +130,8 @@ pub enum LimitKind {
     Cells,
     /// Columns of a cell.
     Width,
+    /// Input bits that the body of a state machine reads.
+    Inputs,
 }
 
 impl LimitKind {
@@ -150,6 +152,7 @@ impl LimitKind {
             LimitKind::Size => "size",
             LimitKind::Cells => "cells",
             LimitKind::Width => "width",
+            LimitKind::Inputs => "inputs",
         }
     }
 }
