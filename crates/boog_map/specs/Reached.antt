@@ -18,8 +18,3 @@ pub data IsReached (held : ℕ) (g : Graph) : ℕ → Type 0 where
   loaded : {a : ℕ} → In a g.loads → IsReached held g a
   read : {a : ℕ} (j : ℕ) (kind : Node) → IsReached held g (held + j) → IsNumber g.nodes j kind → IsTrue (reads kind a)
       → IsReached held g a
-
--- the marks are those of the numbers that are reached
-pub record AreReached (held : ℕ) (g : Graph) (marks : List Bool) : Type 0 where
-  pub many : length marks ≡ held + length g.nodes
-  pub each : (a : ℕ) → IsTrue (bit marks a) ↔ IsReached held g a
