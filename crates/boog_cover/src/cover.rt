@@ -6,11 +6,11 @@ ghost use Rattle.cell_match.specs.Places.{times};
 ghost use Rattle.boog_tight.specs.Cover.{leaves_of, gate_at, uses, IsCover};
 ghost use Rattle.cell_match.specs.Cells.{inputs_of};
 ghost use Rattle.cell_match.specs.Matches.{IsTable};
-ghost use Rattle.boog_tight.specs.Kept.{Keeps};
+ghost use Rattle.boog_tight.specs.Kept.{Keeps, leaf_count};
 ghost use Rattle.boog_tight.specs.Tight.{IsTight};
 ghost use Rattle.boog_tight.specs.Uses.{AreUses};
 ghost use Rattle.boog_cover.specs.Pruned.{IsFull, IsPruned};
-ghost use Rattle.boog_cover.specs.Covered.{HasCells, IsCovered};
+ghost use Rattle.boog_cover.specs.Covered.{HasCells, IsCoveredWith, IsCovered};
 
 use crate::needed::prune;
 use crate::rounds::chosen_twice;
@@ -43,6 +43,20 @@ fn count(counts: &mut [u32], gates: &[Option<Gate>], roots: &[u32])
         count_gate(counts, &gates[i]);
     }
     count_on(counts, roots);
+}
+
+/// How many pins the gates read.
+fn leaf_count(gates: &[Option<Gate>]) -> usize
+    requires { length gates.now < 2 ^ 32 }
+    ensures { result ≡ leaf_count gates.now }
+{
+    let mut count = 0;
+    for gate in gates {
+        if let Some(gate) = gate {
+            count += gate.leaves.len();
+        }
+    }
+    count
 }
 
 /// Takes out what is not needed. Takes memory for a mark for each number.
@@ -86,13 +100,12 @@ fn tightened(
     Ok(gates)
 }
 
-/// Gates of cells that cover the graph, whose first node has number `held`; no cell stands for any pair of them. Each node's gate is the
-/// one of least area, each shared among those that read it; of cells that compute one word the first is taken, so the cells are given
-/// by rising area, and `areas` in the same order. Takes memory for the cuts of each node and for the cells' orders.
-pub fn covered<const K: usize>(
+/// Gates of cells of at most K inputs for most nodes, that cover the graph. Takes memory for the cuts of each node.
+fn covered<const K: usize>(
     alloc: Global,
     cells: &[CellWord],
     areas: &[u32],
+    table: &Table,
     held: u32,
     graph: &Graph,
     roots: &[u32],
@@ -100,7 +113,36 @@ pub fn covered<const K: usize>(
     requires some { 2 ≤ K }
     requires few { K ≤ 6 }
     requires inputs { (k : ℕ) → inputs_of cells.now k ≤ 6 }
-    requires cells { length cells.now < 2 ^ 32 }
+    requires table { IsTable cells.now table.now.maps.items }
+    requires has { HasCells cells.now }
+    requires numbers { held + length graph.now.nodes + length roots.now < 2 ^ 32 }
+    requires earlier { EachReadsEarlier held graph.now.nodes }
+    requires roots { (x : ℕ) → 0 < times x roots.now → x < held + length graph.now.nodes }
+    ensures { IfOk result (λ gates. IsCoveredWith K cells.now held graph.now.nodes roots.now gates.items) }
+{
+    let cuts: CutTable<K> = cuts(alloc, held, graph)?;
+    let gates = chosen_twice(alloc, cells, areas, table, &cuts, held, graph, roots)?;
+    let gates = needed(alloc, gates, held as usize, roots)?;
+    tightened(alloc, cells, table, gates, held as usize, roots)
+}
+
+fn has_wide(cells: &[CellWord]) -> bool {
+    cells.iter().any(|cell| cell.inputs > 4)
+}
+
+/// Gates of cells that cover the graph, whose first node has number `held`; no cell stands for any pair of them, and together they
+/// have at most two pins for each node. Each node's gate is the one of least area, each shared among those that read it; of cells that
+/// compute one word the first is taken, so the cells are given by rising area, and `areas` in the same order. Where cuts of more than
+/// two leaves give too many pins, each gate has two. Takes memory for the cuts of each node and for the cells' orders.
+pub fn cover(
+    alloc: Global,
+    cells: &[CellWord],
+    areas: &[u32],
+    held: u32,
+    graph: &Graph,
+    roots: &[u32],
+) -> Result<Vec<Option<Gate>>, AllocError>
+    requires inputs { (k : ℕ) → inputs_of cells.now k ≤ 6 }
     requires has { HasCells cells.now }
     requires numbers { held + length graph.now.nodes + length roots.now < 2 ^ 32 }
     requires earlier { EachReadsEarlier held graph.now.nodes }
@@ -108,8 +150,13 @@ pub fn covered<const K: usize>(
     ensures { IfOk result (λ gates. IsCovered cells.now held graph.now.nodes roots.now gates.items) }
 {
     let table = Table::new(alloc, cells)?;
-    let cuts: CutTable<K> = cuts(alloc, held, graph)?;
-    let gates = chosen_twice(alloc, cells, areas, &table, &cuts, held, graph, roots)?;
-    let gates = needed(alloc, gates, held as usize, roots)?;
-    tightened(alloc, cells, &table, gates, held as usize, roots)
+    let gates = if has_wide(cells) {
+        covered::<6>(alloc, cells, areas, &table, held, graph, roots)?
+    } else {
+        covered::<4>(alloc, cells, areas, &table, held, graph, roots)?
+    };
+    if leaf_count(&gates) <= 2 * graph.nodes().len() {
+        return Ok(gates);
+    }
+    covered::<2>(alloc, cells, areas, &table, held, graph, roots)
 }

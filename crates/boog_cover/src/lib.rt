@@ -8,6 +8,6 @@ mod needed;
 mod rounds;
 
 pub use choice::{Cost, choices};
-pub use cover::covered;
+pub use cover::cover;
 pub use law::covered_is_cut;
 pub use needed::prune;

@@ -31,6 +31,20 @@ returns-in-Some-clause-some g c =
     subst (λ (xs : List ℕ). ComputesCut cells found.cell xs c.args.cut.now) (sym leaves)
     (match_computes cells c.args.cut.now c.requires.once (omega (arith, fits, few, many)) word c.word_on_leaves-word.ensures found.cell found.order.items is_match)
 
+pub returns-in-Some-clause-first : goal.returns-in-Some-clause-first
+returns-in-Some-clause-first g c = λ k order does.
+    let cells = c.args.cells.now in
+    let nodes = c.args.cut.now.leaves.items in
+    let is = c.as_slice-leaves.ensures.value in
+    let word = c.word_on_leaves-word.result in
+    let fits = c.as_slice-leaves.ensures.fits in
+    let few = c.requires.few in
+    let many = ap (λ (xs : List ℕ). length xs) is in
+    let f = c.in-Some.ensures in
+    let is_match = computes_match cells c.args.cut.now c.requires.once (omega (arith, fits, few, many)) word c.word_on_leaves-word.ensures k order does in
+    (c.requires.table.1 (length c.as_slice-leaves.result.now) f.0 f.1).first word k (map (λ x. place x nodes) order) c.in-Some.found.now c.word_on_leaves-word.type_inv
+    (sym f.2) (subst (λ (xs : List ℕ). IsMatch cells (length xs) word k (map (λ x. place x nodes) order)) (sym is) is_match)
+
 pub returns-in-None-clause-none : goal.returns-in-None-clause-none
 returns-in-None-clause-none g c = λ k order does.
     let cells = c.args.cells.now in
