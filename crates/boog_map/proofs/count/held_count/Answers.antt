@@ -2,7 +2,7 @@ use Rattle.std.proofs.Common.{◌∙◌, ap, map, arith}
 use Rattle.machine_core.specs.View.{equation_view}
 use Rattle.subject_graph.proofs.Solving.{held_is}
 use Rattle.boog_map.proofs.Rooms.{few_inputs}
-use Rattle.boog_map.proofs.mapping.held_count.Goals as goal
+use Rattle.boog_map.proofs.count.held_count.Goals as goal
 
 pub overflow_cast-result : goal.overflow_cast-result
 overflow_cast-result c =
