@@ -99,7 +99,6 @@ next_marked held g marks next one earlier mk h = record {
 } where
   -- a node from this one on was marked before
   was : (x : ℕ) → held + next ≤ x → with_node marks (held + next) one x ≡ true → marks x ≡ true
-  unfolding with_node
   was x high on = elim (or_cases (marks x) (marks (held + next) && reads one x) on) [
     | inl o ↦ o
     | inr r ↦
@@ -109,13 +108,11 @@ next_marked held g marks next one earlier mk h = record {
 
   closes : (j : ℕ) (two : Node) (a : ℕ) → next ≤ j → IsNumber g.nodes j two → with_node marks (held + next) one (held + j) ≡ true → reads two a ≡ true
       → with_node marks (held + next) one a ≡ true
-  unfolding with_node
   closes j two a low i on reads_it = by (j == next) refl where
     on_before : marks (held + j) ≡ true
     on_before = was (held + j) (omega (arith, low)) on
 
     by : (b : Bool) → (j == next) ≡ b → with_node marks (held + next) one a ≡ true
-    unfolding with_node
     by true e =
         let same : j ≡ next = eqb-true j next e in
         let two_is : two ≡ one = number_once g.nodes next two one (let P : ℕ → Type 0 = λ x. IsNumber g.nodes x two in subst P same i) h in

@@ -12,7 +12,8 @@ use Rattle.cell_model.specs.Cell.{Function, gate, flip_flop, other, opaque, Cell
 use Rattle.cell_model.specs.Library.{IsUsable, IsPlain}
 use Rattle.cell_model.specs.Covering.{IsGateOf, IsFunctionOf, HasKind, HasCellOf, needed}
 use Rattle.cell_match.specs.declared.gate.CellWord.{CellWord}
-use Rattle.cell_match.specs.Cells.{blank, inputs_of, cell_value}
+use Rattle.cell_match.specs.declared.gate.Gate.{Gate}
+use Rattle.cell_match.specs.Cells.{blank, inputs_of, cell_value, IsGate}
 use Rattle.boog_cover.specs.Covered.{HasCells, HasFixed, HasInv, HasNand}
 use Rattle.net_core.proofs.Frames.{mapped}
 use Rattle.net_theory.specs.Sources.{IsNumber}
@@ -83,10 +84,10 @@ pub record IsGateRole (words : List CellWord) (k : ℕ) (c : Cell) : Type 0 wher
 pub record AreRoles (cells : List Cell) (registers : Bool) (ps : Parts) : Type 0 where
   pub each : (r : Role) → IsRole cells (part_of ps r)
   pub flip : registers ≡ true → HasKind (each role.Register).cell kind.Dff
-  pub gate : (k : ℕ) → k < length (gate_words ps) → IsGateRole (gate_words ps) k (each (role.Gate k)).cell
+  pub of_gate : (k : ℕ) → k < length (gate_words ps) → IsGateRole (gate_words ps) k (each (role.Gate k)).cell
   pub every : (c : Cell) (e : Expression) → In c cells → IsUsable c → c.function ≡ gate e → (k : ℕ) × IsCell (gate_words ps) k c e
 
-one_expr : (c : Cell) (e f : Expression) → c.function ≡ gate e → c.function ≡ gate f → e ≡ f
+pub one_expr : (c : Cell) (e f : Expression) → c.function ≡ gate e → c.function ≡ gate f → e ≡ f
 one_expr c e f p q = let same : gate e ≡ gate f = sym p ∙ q in cc
 
 module _ (cells : List Cell) (registers : Bool) (ps : Parts) (parts : AreParts cells registers ps) where
@@ -127,15 +128,52 @@ module _ (cells : List Cell) (registers : Bool) (ps : Parts) (parts : AreParts c
   role_of (role.Gate k) = (told k).0
 
   pub roles : AreRoles cells registers ps
+  unfolding role_of of_register
   roles = record {
     each = role_of;
     flip = λ is. subst (λ (b : Bool). HasKind parts.register.cell (register_kind b)) is parts.register.chosen.kind;
-    gate = λ k low. (told k).1 low;
+    of_gate = λ k low. (told k).1 low;
     every = λ c e listed usable is_gate.
         let r = parts.gates.every c e listed usable is_gate in
         let k = number_of r.0 ps.gates.items r.1 in
         (k.0, subst (λ (f : Expression). IsCell (gate_words ps) k.0 c f) (one_expr c r.2.expr e r.2.is_gate is_gate) (word_is ps.gates.items k.0 r.0 c k.1 r.2));
   }
+
+-- ---- the cells of registers and of gates
+
+pub record IsFlip (c : Cell) : Type 0 where
+  pub data_pin : Name
+  pub clock_pin : Name
+  pub is_flip : c.function ≡ flip_flop data_pin clock_pin
+  pub has_data : In data_pin (cell_inputs c)
+  pub has_clock : In clock_pin (cell_inputs c)
+  pub apart : data_pin ≢ clock_pin
+  pub two : length (cell_inputs c) ≡ 2
+
+pub flip_cell : (cells : List Cell) (registers : Bool) (ps : Parts) (rs : AreRoles cells registers ps) → registers ≡ true → IsFlip (rs.each role.Register).cell
+flip_cell cells registers ps rs some =
+    let c = (rs.each role.Register).cell in
+    let flip = flip_of c.function (length (cell_inputs c)) (rs.flip some) in
+    let plain : IsPlain c (flip_flop flip.0 flip.1) = subst (λ (f : Function). IsPlain c f) flip.2 (rs.each role.Register).usable.function in
+    record { data_pin = flip.0; clock_pin = flip.1; is_flip = flip.2; has_data = plain.2; has_clock = plain.3; apart = plain.4; two = plain.1 }
+
+-- the cell of a gate: its function is that of the gate's word
+pub record IsCellOfGate (words : List CellWord) (c : Cell) (x : Gate) : Type 0 where
+  pub expr : Expression
+  pub is_gate : c.function ≡ gate expr
+  pub many : length (cell_inputs c) ≡ length x.leaves.items
+  pub value : (w : List Bool) → length w ≡ length x.leaves.items → val expr w ≡ cell_value words x.cell w
+
+pub gate_cell : (cells : List Cell) (registers : Bool) (ps : Parts) (rs : AreRoles cells registers ps) (j : ℕ) (x : Gate) → IsGate (gate_words ps) j x
+    → IsCellOfGate (gate_words ps) (rs.each (role.Gate x.cell)).cell x
+gate_cell cells registers ps rs j x is =
+    let g = rs.of_gate x.cell is.there in
+    record {
+      expr = g.expr;
+      is_gate = g.is_gate;
+      many = sym (is.many ∙ g.is_cell.inputs);
+      value = λ w long. sym (g.is_cell.value w (long ∙ is.many));
+    }
 
 -- ---- what a cover asks of the words
 
@@ -145,7 +183,7 @@ plain_few c f e is plain = let p : IsPlain c (gate e) = subst (λ (h : Function)
 pub few_inputs : (cells : List Cell) (registers : Bool) (ps : Parts) → AreRoles cells registers ps → HaveFewInputs (gate_words ps)
 few_inputs cells registers ps rs k = elim (cases_lt k (length (gate_words ps))) [
   | inl low ↦
-      let g = rs.gate k low in
+      let g = rs.of_gate k low in
       let e = g.is_cell.inputs in
       let few = plain_few (rs.each (role.Gate k)).cell (rs.each (role.Gate k)).cell.function g.expr g.is_gate (rs.each (role.Gate k)).usable.function in
       omega (arith, e, few)

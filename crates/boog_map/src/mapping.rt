@@ -1,5 +1,5 @@
 // Technology mapping.
-ghost use Rattle.std.specs.Prelude.{◌≡◌, ◌++◌, ◌<◌, ◌^◌, map, length, IfOk, OnOk, IfErr};
+ghost use Rattle.std.specs.Prelude.{◌≡◌, ◌++◌, ◌+◌, ◌<◌, ◌^◌, map, length, IfOk, OnOk, IfErr};
 ghost use Rattle.net_right.specs.Right.{IsRightNetlist, HasPinsOfCells};
 ghost use Rattle.net_core.specs.Netlist.{IsNetlist};
 ghost use Rattle.graph_theory.specs.Graph.{held_count};
