@@ -1,5 +1,5 @@
 -- The gates of a list that a netlist may use.
-use Rattle.std.proofs.Common.{◌≡◌, ◌⊎◌, inl, inr, ℕ, zero, suc, ◌+◌, ◌<◌, ◌≤◌, List, [], ◌∷◌, ◌++◌, length, take, get_or, refl, sym, ◌∙◌, ap, subst, arith}
+use Rattle.std.proofs.Common.{◌≡◌, ◌⊎◌, inl, inr, ℕ, zero, suc, ◌+◌, ◌<◌, ◌≤◌, List, [], ◌∷◌, ◌++◌, length, take, get_or, Option, None, Some, IfSome, IfNone, refl, sym, ◌∙◌, ap, subst, arith}
 use Rattle.std.specs.List.Sorted.{IsPermutation}
 use Rattle.std.proofs.lemmas.List.Sorted.{IsPermutation-sym, Contains-permutation}
 use Rattle.vlsi_base.specs.Member.{In, here, there}
@@ -78,7 +78,7 @@ module _ (cells : List Cell) (i : ℕ) (c : Cell) (low : i < length cells) (is :
   step_same gates so_far none =
       subst (λ (cs : List Cell). AreGateCells cs gates) (sym (take_next cells i c low is)) (gates_same (take i cells) gates c so_far none)
 
-take_all : {A : Type 0} (xs : List A) (i : ℕ) → length xs ≤ i → take i xs ≡ xs
+pub take_all : {A : Type 0} (xs : List A) (i : ℕ) → length xs ≤ i → take i xs ≡ xs
 take_all [] zero h = refl
 take_all [] (suc i) h = refl
 take_all (x ∷ xs) zero h = absurd (omega (arith, h))
@@ -86,6 +86,12 @@ take_all {A} (x ∷ xs) (suc i) h = ap (λ (ys : List A). x ∷ ys) (take_all xs
 
 pub step_done : (cells : List Cell) (i : ℕ) (gates : List GateCell) → length cells ≤ i → AreGateCells (take i cells) gates → AreGateCells cells gates
 step_done cells i gates over so_far = subst (λ (cs : List Cell). AreGateCells cs gates) (take_all cells i over) so_far
+
+pub some_is : (P : GateCell → Type 0) (o : Option GateCell) (x : GateCell) → o ≡ Some x → IfSome o P → P x
+some_is P o x is h = subst (λ (p : Option GateCell). IfSome p P) is h
+
+pub none_is : (P : Type 0) (o : Option GateCell) → o ≡ None → IfNone o P → P
+none_is P o is h = subst (λ (p : Option GateCell). IfNone p P) is h
 
 -- ---- in another order
 

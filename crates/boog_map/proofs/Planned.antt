@@ -1,5 +1,6 @@
 -- The room that a plan has, and the parts of a machine that it is lent.
-use Rattle.std.proofs.Common.{◌≡◌, ℕ, ◌+◌, ◌-◌, ◌^◌, ◌<◌, List, length, map, take, drop, Option, ◌∙◌, ap, arith}
+use Rattle.std.proofs.Common.{◌≡◌, ℕ, ◌+◌, ◌-◌, ◌^◌, ◌<◌, ◌≤◌, List, length, map, take, drop, Option, ◌∙◌, ap, arith}
+use Rattle.std.proofs.lemmas.List.{length-drop}
 use Rattle.vlsi_base.specs.declared.name.Name.{Name}
 use Rattle.vlsi_base.specs.declared.name.Terminal.{Terminal}
 use Rattle.machine_core.specs.Machine.{Machine, inputs}
@@ -11,6 +12,7 @@ use Rattle.cell_match.specs.declared.gate.Gate.{Gate}
 use Rattle.boog_map.specs.Netlist.{HasRoomForCells}
 use Rattle.boog_map.specs.Mapped.{node_gates}
 use Rattle.boog_map.proofs.Dropped.{dropped_count}
+use Rattle.boog_map.proofs.Choices.{take_all}
 use Rattle.boog_map.proofs.Planning.{inputs_first}
 use Rattle.boog_map.proofs.Rooms.{numbers_fit}
 
@@ -30,3 +32,8 @@ gates_fit m g sub room drivers gs some count long is =
     let a = ap length is in
     let b = dropped_count (held_count m) (length g.nodes) gs long in
     omega (arith, fit, a, b, count)
+
+-- the gates behind those of inputs and registers
+pub slice_is : (m : Machine) (gs : List (Option Gate)) (held : ℕ) → held ≡ held_count m → take (length gs - held) (drop held gs) ≡ node_gates m gs
+slice_is m gs held is =
+    take_all (drop held gs) (length gs - held) (let long = length-drop held gs in omega (arith, long)) ∙ ap (λ (n : ℕ). drop n gs) is
