@@ -1,15 +1,15 @@
 -- The netlist of a mapped machine carries the gates of its cover, so it is tight.
-use Rattle.std.proofs.Common.{◌≡◌, ◌⊎◌, inl, inr, ◌↔◌, ℕ, ◌+◌, ◌-◌, ◌<◌, ◌≤◌, Bool, false, not, List, [], ◌∷◌, length, map, filter, drop, Option, None, Some, refl, sym, ◌∙◌, ap, subst, arith, get_or}
+use Rattle.std.proofs.Common.{◌≡◌, inl, inr, ◌↔◌, ℕ, ◌+◌, ◌-◌, ◌<◌, false, not, List, [], ◌∷◌, length, map, filter, Option, None, Some, refl, sym, ◌∙◌, ap, subst, arith}
 use Rattle.std.proofs.lemmas.Bool.{cases_lt}
 use Rattle.vlsi_base.specs.declared.name.Name.{Name}
 use Rattle.vlsi_base.specs.declared.name.Port.{Port}
 use Rattle.vlsi_base.specs.declared.name.Terminal.{Terminal}
 use Rattle.vlsi_base.specs.Names.{vdd, vss}
-use Rattle.vlsi_base.specs.Member.{In, here, there}
+use Rattle.vlsi_base.specs.Member.{In}
 use Rattle.bool_expr.specs.Expression.{Expression, val}
 use Rattle.machine_core.specs.Machine.{Machine, inputs, outputs, is_input, names_of}
 use Rattle.machine_core.specs.Checked.{IsChecked}
-use Rattle.cell_model.specs.Cell.{gate, flip_flop, Cell, cell_inputs, cell_outputs}
+use Rattle.cell_model.specs.Cell.{gate, flip_flop, Cell, cell_inputs}
 use Rattle.cell_model.specs.Library.{Library, cell_of}
 use Rattle.cell_model.proofs.Members.{In-split, In-left, In-right}
 use Rattle.cell_checks.specs.Checked.{IsChecked as HasPassed}
@@ -52,7 +52,7 @@ use Rattle.boog_map.proofs.Lists.{in_there, got, number_stands, mapped_same, map
 use Rattle.boog_map.proofs.Marks.{root_cases}
 use Rattle.boog_map.proofs.Roles.{AreRoles, flip_cell, gate_cell, one_expr}
 use Rattle.boog_map.proofs.Spots.{register_at, register_found, gate_at, gate_found}
-use Rattle.boog_map.proofs.Pins.{output_told, gate_input_told, data_told}
+use Rattle.boog_map.proofs.Pins.{gate_input_told, data_told}
 use Rattle.boog_map.proofs.Classes.{signal_at, signal_told, class_alike}
 use Rattle.boog_map.proofs.Driven.{told, spot_told, on_output, good_node, good_read, formed, is_part}
 use Rattle.boog_map.proofs.Drawable.{names_apart}

@@ -1,19 +1,17 @@
 -- The gates of a list that a netlist may use.
-use Rattle.std.proofs.Common.{◌≡◌, ◌⊎◌, inl, inr, ℕ, zero, suc, ◌+◌, ◌<◌, ◌≤◌, List, [], ◌∷◌, ◌++◌, length, take, get_or, Option, None, Some, IfSome, IfNone, refl, sym, ◌∙◌, ap, subst, arith}
+use Rattle.std.proofs.Common.{◌≡◌, inl, inr, ℕ, zero, suc, ◌+◌, ◌<◌, ◌≤◌, List, [], ◌∷◌, ◌++◌, length, take, get_or, Option, None, Some, IfSome, IfNone, refl, sym, ◌∙◌, ap, subst, arith}
 use Rattle.std.specs.List.Sorted.{IsPermutation}
 use Rattle.std.proofs.lemmas.List.Sorted.{IsPermutation-sym, Contains-permutation}
 use Rattle.vlsi_base.specs.Member.{In, here, there}
-use Rattle.bool_expr.specs.Expression.{Expression, val}
-use Rattle.truth_tab.specs.Table.{value_of}
+use Rattle.bool_expr.specs.Expression.{Expression}
 use Rattle.cell_model.specs.Cell.{Function, gate, Cell, cell_inputs}
 use Rattle.cell_model.specs.Library.{IsUsable, IsPlain}
 use Rattle.cell_model.proofs.KindLemmas.{inputs_counted}
 use Rattle.cell_model.proofs.Members.{In-split, In-left, In-right, In-at, place-In}
 use Rattle.cell_word.specs.Words.{input_count, IsWordOf}
-use Rattle.boog_map.specs.declared.part.Part.{Part}
 use Rattle.boog_map.specs.declared.choice.GateCell.{GateCell}
 use Rattle.boog_map.specs.Tied.{IsPart, IsGateCell, IsNoGate, AreGateCells}
-use Rattle.boog_map.proofs.Building.{take_next, length_taken}
+use Rattle.boog_map.proofs.Building.{take_next}
 
 -- ---- one cell
 

@@ -1,5 +1,5 @@
 -- The terminals of a mapped machine: each has a signal whose driver is there.
-use Rattle.std.proofs.Common.{◌≡◌, ◌≢◌, ◌⊎◌, inl, inr, ℕ, zero, suc, ◌+◌, ◌-◌, ◌<◌, ◌≤◌, true, false, List, [], ◌∷◌, ◌++◌, length, map, drop, refl, sym, ◌∙◌, ap, subst, arith, Option, None, Some, get_or}
+use Rattle.std.proofs.Common.{◌≡◌, ◌≢◌, ◌⊎◌, inl, inr, ℕ, zero, suc, ◌+◌, ◌-◌, ◌<◌, true, false, List, [], ◌∷◌, ◌++◌, length, map, refl, sym, ◌∙◌, ap, subst, arith, Option, None, Some, get_or}
 use Rattle.std.specs.Prelude.{unwrap_or}
 use Rattle.std.specs.List.{flat_map}
 use Rattle.std.proofs.lemmas.Bool.{cases_lt}
@@ -29,7 +29,7 @@ use Rattle.cell_match.specs.declared.gate.Gate.{Gate}
 use Rattle.cell_match.specs.Places.{times}
 use Rattle.cell_match.proofs.Pigeons.{times_append}
 use Rattle.boog_tight.specs.Cover.{gate_at as gate_of_node, uses}
-use Rattle.boog_tight.proofs.Counting.{gate_there, used_some}
+use Rattle.boog_tight.proofs.Counting.{used_some}
 use Rattle.boog_cover.specs.Covered.{IsCovered}
 use Rattle.graph_theory.specs.Graph.{Graph, held_count}
 use Rattle.subject_graph.specs.Subject.{IsSubjectGraph}

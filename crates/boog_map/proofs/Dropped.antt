@@ -1,9 +1,9 @@
 -- The gates of the nodes behind inputs and registers.
-use Rattle.std.proofs.Common.{◌≡◌, ◌⊎◌, inl, inr, ℕ, zero, suc, ◌+◌, ◌-◌, ◌<◌, ◌≤◌, List, [], ◌∷◌, length, drop, Option, None, Some, refl, sym, ◌∙◌, ap, subst, arith}
+use Rattle.std.proofs.Common.{◌≡◌, ℕ, zero, suc, ◌+◌, ◌≤◌, List, [], ◌∷◌, length, drop, Option, Some, sym, subst, arith}
 use Rattle.std.proofs.lemmas.List.{length-drop}
 use Rattle.net_theory.specs.Sources.{IsNumber}
 use Rattle.cell_match.specs.declared.gate.Gate.{Gate}
-use Rattle.boog_tight.specs.Cover.{gate_at, leaves_of}
+use Rattle.boog_tight.specs.Cover.{gate_at}
 use Rattle.boog_tight.specs.Kept.{leaf_count}
 
 number_at : (gs : List (Option Gate)) (i : ℕ) (x : Gate) → gate_at gs i ≡ Some x → IsNumber gs i (Some x)

@@ -1,5 +1,5 @@
 -- The cells that a netlist is made of, by the roles of its instances.
-use Rattle.std.proofs.Common.{◌≡◌, ◌≢◌, ◌⊎◌, inl, inr, ℕ, ◌<◌, ◌≤◌, Bool, true, false, not, ◌&&◌, List, [], ◌∷◌, length, map, refl, sym, ◌∙◌, ap, subst, arith, get_or}
+use Rattle.std.proofs.Common.{◌≡◌, ◌≢◌, inl, inr, ℕ, ◌<◌, ◌≤◌, Bool, true, false, List, [], ◌∷◌, length, map, refl, sym, ◌∙◌, ap, subst, arith, get_or}
 use Rattle.std.proofs.lemmas.Bool.{cases_lt}
 use Rattle.std.proofs.lemmas.List.{get_or_past}
 use Rattle.vlsi_base.specs.Member.{In, here, there}
@@ -24,7 +24,7 @@ use Rattle.boog_map.specs.declared.choice.GateCell.{GateCell}
 use Rattle.boog_map.specs.declared.choice.Role.{Role}
 use Rattle.boog_map.specs.declared.choice.Role.TheVariants as role
 use Rattle.boog_map.specs.declared.choice.Parts.{Parts}
-use Rattle.boog_map.specs.Tied.{IsPart, IsGateCell, AreGateCells, AreParts, register_kind, part_of, gate_words, HaveFewInputs}
+use Rattle.boog_map.specs.Tied.{IsPart, IsGateCell, AreParts, register_kind, part_of, gate_words, HaveFewInputs}
 use Rattle.boog_map.proofs.Lists.{got, number_stands}
 
 -- ---- what kinds say of functions

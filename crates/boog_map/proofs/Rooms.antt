@@ -1,5 +1,5 @@
 -- How many numbers a graph has.
-use Rattle.std.proofs.Common.{◌≡◌, ◌⊎◌, inl, inr, ℕ, ◌+◌, ◌^◌, ◌<◌, ◌≤◌, Bool, not, List, ◌++◌, length, filter, refl, ap, subst, arith, length-append}
+use Rattle.std.proofs.Common.{◌≡◌, inl, inr, ℕ, ◌+◌, ◌^◌, ◌<◌, ◌≤◌, Bool, not, List, length, filter, refl, ap, subst, arith, length-append}
 use Rattle.std.proofs.lemmas.List.Filters.{length-filter_both}
 use Rattle.vlsi_base.specs.declared.name.Port.{Port}
 use Rattle.machine_core.specs.Machine.{Machine, inputs, outputs, input_ports, is_input, is_clock}

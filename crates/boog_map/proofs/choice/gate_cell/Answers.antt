@@ -1,4 +1,4 @@
-use Rattle.std.proofs.Common.{◌∙◌, ℕ, List, ap, arith}
+use Rattle.std.proofs.Common.{◌∙◌, List, ap, arith}
 use Rattle.cell_model.specs.declared.cell.Pin.{Pin}
 use Rattle.cell_word.specs.Words.{input_count}
 use Rattle.boog_map.proofs.Choices.{few_inputs, gate_cell_is}

@@ -1,5 +1,4 @@
-use Rattle.std.proofs.Common.{◌≡◌, ◌∙◌, ◌+◌, List, Vec, Global, ap, subst, sym, take}
-use Rattle.cell_model.specs.Cell.{Cell}
+use Rattle.std.proofs.Common.{◌∙◌, ◌+◌, List, Vec, Global, ap, subst, sym, take}
 use Rattle.boog_map.specs.declared.choice.GateCell.{GateCell}
 use Rattle.boog_map.specs.Tied.{IsGateCell, IsNoGate, AreGateCells}
 use Rattle.boog_map.proofs.Choices.{step_more, step_same, step_done, gates_none, some_is, none_is}
