@@ -53,13 +53,17 @@ times_few x (y ∷ xs) = let e = times_few x xs in elim (one_tells y x) [
 ]
 
 -- a gate that is read at its place
+pub gate_got : (gates : List (Option Gate)) (i : ℕ) (o : Option Gate) → i < length gates → gate_at gates i ≡ get_or gates i o
+gate_got [] i o h = absurd (omega arith)
+gate_got (g ∷ gates) zero o h = refl
+gate_got (g ∷ gates) (suc i) o h = gate_got gates i o (omega arith)
+
+pub gate_there_at : (gates : List (Option Gate)) (i : ℕ) (o : Option Gate) → i < length gates → o ≡ get_or gates i o → gate_at gates i ≡ o
+gate_there_at gates i o h e = gate_got gates i o h ∙ sym e
+
 pub leaves_read : (x : ℕ) (gates : List (Option Gate)) (i : ℕ) (o : Option Gate) → i < length gates → o ≡ get_or gates i o
     → times x (leaves_of (gate_at gates i)) ≡ times x (leaves_of o)
-leaves_read x gates i o h e = ap (λ (g : Option Gate). times x (leaves_of g)) (go gates i h ∙ sym e) where
-  go : (gates : List (Option Gate)) (i : ℕ) → i < length gates → gate_at gates i ≡ get_or gates i o
-  go [] i h = absurd (omega arith)
-  go (g ∷ gates) zero h = refl
-  go (g ∷ gates) (suc i) h = go gates i (omega arith)
+leaves_read x gates i o h e = ap (λ (g : Option Gate). times x (leaves_of g)) (gate_there_at gates i o h e)
 
 pub written : {A : Type 0} (new items : List A) (n : ℕ) → length new ≡ n → take n (new ++ drop (length new) items) ≡ new
 written {A} new items n h = subst (λ (k : ℕ). take k (new ++ drop (length new) items) ≡ new) h (go new (drop (length new) items)) where

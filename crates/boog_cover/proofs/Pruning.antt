@@ -50,7 +50,7 @@ used_by x (g ∷ gates) h = elim (cases_lt 0 (times x (leaves_of g))) [
 ]
 
 -- a gate from number n on reads x
-record IsReadFrom (gates : List (Option Gate)) (n x : ℕ) : Type 0 where
+pub record IsReadFrom (gates : List (Option Gate)) (n x : ℕ) : Type 0 where
   pub reader : ℕ
   pub high : n ≤ reader
   pub reads : 0 < times x (leaves_of (gate_at gates reader))

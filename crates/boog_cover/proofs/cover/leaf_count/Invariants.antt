@@ -1,6 +1,0 @@
-use Rattle.std.proofs.Common.{◌≡◌, take}
-use Rattle.boog_tight.specs.Kept.{leaf_count}
-use Rattle.boog_cover.proofs.cover.leaf_count.Given as goal
-
-abbrev pub invariant-loop-gate : goal.invariant-loop-gate
-invariant-loop-gate l = l.count ≡ leaf_count (take l.gate-index l.gates)
