@@ -13,12 +13,13 @@ use Rattle.cell_match.specs.Computes.{ComputesCut}
 use Rattle.boog_cuts.specs.Reads.{Reaches}
 use Rattle.boog_cuts.specs.Cuts.{AreValues}
 
--- the gate is made of one of the cuts behind the first
+-- the gate is made of one of the cuts behind the first, of K leaves at most
 pub record IsOfCut {K : ℕ} (cells : List CellWord) (cuts : List (Cut K)) (g : Gate) : Type 0 where
   pub number : ℕ
   pub cut : Cut K
   pub listed : IsNumber cuts (suc number) cut
   pub computes : ComputesCut cells g.cell g.leaves.items cut
+  pub few : length g.leaves.items ≤ K
 
 -- no cell computes any of them
 abbrev pub NoneOfCuts : {K : ℕ} → List CellWord → List (Cut K) → Type 0

@@ -12,4 +12,4 @@ reads (nand x y) a = x == a || y == a
 -- Number x is reached from number a: it is a, or a node that is reached from a reads it. The first node has number `held`.
 pub data Reaches (held : ℕ) (nodes : List Node) (a : ℕ) : ℕ → Type 0 where
   itself : Reaches held nodes a a
-  read : {x : ℕ} (j : ℕ) (kind : Node) → Reaches held nodes a (held + j) → IsNumber nodes j kind → IsTrue (reads kind x) → Reaches held nodes a x
+  step : {x : ℕ} (j : ℕ) (kind : Node) → Reaches held nodes a (held + j) → IsNumber nodes j kind → IsTrue (reads kind x) → Reaches held nodes a x

@@ -19,6 +19,7 @@ pub fn matched<const K: usize>(cells: &[CellWord], table: &Table, cut: &Cut<K>) 
     requires table { IsTable cells.now table.now.maps.items }
     requires once { (x : ℕ) → times x cut.now.leaves.items ≤ 1 }
     ensures some { IfSome result (λ g. ComputesCut cells.now g.cell g.leaves.items cut.now) }
+    ensures few { IfSome result (λ g. length g.leaves.items ≤ K) }
     ensures first { IfSome result (λ g. (k : ℕ) (order : List ℕ) → ComputesCut cells.now k order cut.now → g.cell ≤ k) }
     ensures none { IfNone result ((k : ℕ) (order : List ℕ) → ComputesCut cells.now k order cut.now → ⊥) }
 {

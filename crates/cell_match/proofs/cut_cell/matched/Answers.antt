@@ -1,4 +1,5 @@
 use Rattle.std.proofs.Common.{◌≡◌, ◌<◌, ℕ, List, map, length, slice_index, None, Some, ap, sym, subst, ◌∙◌, arith}
+use Rattle.std.proofs.lemmas.List.{length-map}
 use Rattle.cell_match.specs.Places.{times, place}
 use Rattle.cell_match.specs.Cells.{IsMatch}
 use Rattle.cell_match.specs.Computes.{ComputesCut}
@@ -30,6 +31,17 @@ returns-in-Some-clause-some g c =
     ∙ ap (λ (xs : List ℕ). map (slice_index nodes) xs) c.as_slice.ensures.value in
     subst (λ (xs : List ℕ). ComputesCut cells found.cell xs c.args.cut.now) (sym leaves)
     (match_computes cells c.args.cut.now c.requires.once (omega (arith, fits, few, many)) word c.word_on_leaves-word.ensures found.cell found.order.items is_match)
+
+pub returns-in-Some-clause-few : goal.returns-in-Some-clause-few
+returns-in-Some-clause-few g c =
+    let f = c.in-Some.ensures in
+    let is_match = (c.requires.table.1 (length c.as_slice-leaves.result.now) f.0 f.1).found c.word_on_leaves-word.result c.in-Some.found.now (sym f.2) in
+    let fits = c.as_slice-leaves.ensures.fits in
+    let order = ap (λ (xs : List ℕ). length xs) c.as_slice.ensures.value in
+    let many = is_match.ordered.many in
+    let mapped = length-map c.as_slice.result.now (slice_index c.as_slice-leaves.result.now) in
+    let long = ap (λ (xs : List ℕ). length xs) c.arranged.ensures in
+    omega (arith, fits, order, many, mapped, long)
 
 pub returns-in-Some-clause-first : goal.returns-in-Some-clause-first
 returns-in-Some-clause-first g c = λ k order does.

@@ -130,6 +130,30 @@ fn has_wide(cells: &[CellWord]) -> bool {
     cells.iter().any(|cell| cell.inputs > 4)
 }
 
+/// A cover by gates of at most 4 inputs where no cell has more, and of at most 6 elsewhere. Takes memory as `cover` does.
+fn wide_cover(
+    alloc: Global,
+    cells: &[CellWord],
+    areas: &[u32],
+    table: &Table,
+    held: u32,
+    graph: &Graph,
+    roots: &[u32],
+) -> Result<Vec<Option<Gate>>, AllocError>
+    requires inputs { (k : ℕ) → inputs_of cells.now k ≤ 6 }
+    requires table { IsTable cells.now table.now.maps.items }
+    requires has { HasCells cells.now }
+    requires numbers { held + length graph.now.nodes + length roots.now < 2 ^ 32 }
+    requires earlier { EachReadsEarlier held graph.now.nodes }
+    requires roots { (x : ℕ) → 0 < times x roots.now → x < held + length graph.now.nodes }
+    ensures { IfOk result (λ gates. IsCoveredWith 6 cells.now held graph.now.nodes roots.now gates.items) }
+{
+    if has_wide(cells) {
+        return covered::<6>(alloc, cells, areas, table, held, graph, roots);
+    }
+    covered::<4>(alloc, cells, areas, table, held, graph, roots)
+}
+
 /// Gates of cells that cover the graph, whose first node has number `held`; no cell stands for any pair of them, and together they
 /// have at most two pins for each node. Each node's gate is the one of least area, each shared among those that read it; of cells that
 /// compute one word the first is taken, so the cells are given by rising area, and `areas` in the same order. Where cuts of more than
@@ -150,11 +174,7 @@ pub fn cover(
     ensures { IfOk result (λ gates. IsCovered cells.now held graph.now.nodes roots.now gates.items) }
 {
     let table = Table::new(alloc, cells)?;
-    let gates = if has_wide(cells) {
-        covered::<6>(alloc, cells, areas, &table, held, graph, roots)?
-    } else {
-        covered::<4>(alloc, cells, areas, &table, held, graph, roots)?
-    };
+    let gates = wide_cover(alloc, cells, areas, &table, held, graph, roots)?;
     if leaf_count(&gates) <= 2 * graph.nodes().len() {
         return Ok(gates);
     }

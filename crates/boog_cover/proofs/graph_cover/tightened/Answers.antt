@@ -5,7 +5,7 @@ use Rattle.cell_match.specs.Places.{times}
 use Rattle.boog_tight.specs.Cover.{leaves_of, gate_at, IsCover}
 use Rattle.boog_tight.specs.Tight.{IsTight}
 use Rattle.boog_cover.proofs.Counting.{written}
-use Rattle.boog_cover.proofs.cover.tightened.Goals as goal
+use Rattle.boog_cover.proofs.graph_cover.tightened.Goals as goal
 
 once_each : (cells : List CellWord) (held : ℕ) (gates : List (Option Gate)) (roots : List ℕ) (a x : ℕ) (o : Option Gate) → IsCover cells held gates roots
     → gate_at gates a ≡ o → times x (leaves_of o) ≤ 1
