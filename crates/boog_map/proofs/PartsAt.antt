@@ -1,10 +1,9 @@
 -- The parts of cells at places.
-use Rattle.std.proofs.Common.{◌≡◌, ◌⊎◌, inl, inr, ℕ, ◌+◌, ◌<◌, ◌≤◌, List, [], ◌∷◌, ◌++◌, length, take, get_or, All, Some, refl, sym, ◌∙◌, ap, subst, arith, length-append}
+use Rattle.std.proofs.Common.{◌≡◌, ◌⊎◌, inl, inr, ℕ, ◌+◌, ◌<◌, ◌≤◌, List, [], ◌∷◌, ◌++◌, length, take, get_or, All, Some, refl, sym, subst, arith, length-append}
 use Rattle.std.specs.Prelude.{slice_get}
 use Rattle.std.proofs.lemmas.Option.{slice_get_within}
 use Rattle.cell_model.specs.Cell.{Cell}
 use Rattle.cell_model.specs.Library.{Library, IsUsable}
-use Rattle.cell_checks.specs.Checked.{library_of}
 use Rattle.cell_match.proofs.Filling.{got_end}
 use Rattle.net_core.proofs.Standing.{stands_same}
 use Rattle.gate_cells.specs.declared.listed.GateCells.{GateCells}

@@ -158,9 +158,11 @@ module _ (l : Library) (registers : Bool) (ps : Parts) (parts : AreParts l regis
       let place : g.own.place ≡ p.0 = stands_same ps.cells.places.items k.0 g.own.place p.0 g.own.at_place k.1 in
       let P : ℕ → Type 0 = λ n. slice_get l.cells n ≡ Some g.cell in
       let same : g.cell ≡ c = stands_same l.cells p.0 g.cell c (subst P place g.at) p.1 in
-      let is : IsGateCell c g.own.word g.own.area = subst (λ (x : Cell). IsGateCell x g.own.word g.own.area) same g.is in
-      (k.0, subst (λ (f : Expression). IsCell (gate_words ps) k.0 c f) (one_expr c is.expr e is.is_gate is_gate)
-      (word_is (gate_words ps) k.0 g.own.area g.own.word c g.own.at_word is))
+      let is : IsGateCell c g.own.word g.own.area = subst (λ (x : Cell). IsGateCell x g.own.word g.own.area) same g.is in (
+        k.0,
+        subst (λ (f : Expression). IsCell (gate_words ps) k.0 c f) (one_expr c is.expr e is.is_gate is_gate)
+            (word_is (gate_words ps) k.0 g.own.area g.own.word c g.own.at_word is),
+      )
 
   pub roles : AreRoles l.cells registers ps
   unfolding role_of of_register
