@@ -77,7 +77,8 @@ pub record IsUsableAt (cells : List Cell) (place : ℕ) : Type 0 where
 -- each part is that of the cell at its place
 pub record AreGateParts (cells : List Cell) (places : List ℕ) (parts : List Part) : Type 0 where
   pub many : length parts ≡ length places
-  pub each : (k place : ℕ) (c : Cell) (p : Part) → slice_get places k ≡ Some place → slice_get cells place ≡ Some c → slice_get parts k ≡ Some p → IsPart c p
+  pub each : (k place : ℕ) (c : Cell) (p : Part) → slice_get places k ≡ Some place → slice_get cells place ≡ Some c
+      → slice_get parts k ≡ Some p → IsPart c p
 
 -- the cell of registers; without registers an inverter stands for it
 abbrev pub register_kind : Bool → Kind
