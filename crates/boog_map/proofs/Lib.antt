@@ -1,6 +1,7 @@
 pub mod Lists
-pub mod Marking
-pub mod Reaching
+pub mod Marks
+pub mod Dropped
+pub mod Roles
 pub mod Classes
 pub mod Supplied
 pub mod PortSignals
@@ -11,12 +12,14 @@ pub mod Driven
 pub mod Rooms
 pub mod Drawable
 pub mod Seating
+pub mod Carrying
 pub mod Steps
 pub mod Placing
 pub mod Building
 pub mod Joining
 pub mod Adding
 pub mod Choosing
+pub mod Choices
 pub mod Planning
 pub mod Planned
 pub mod Given
