@@ -34,7 +34,7 @@ use Rattle.boog_map.specs.declared.place.Signal.{Signal}
 use Rattle.boog_map.specs.declared.place.Spot.{Spot}
 use Rattle.boog_map.specs.declared.build.Sketch.{Sketch}
 use Rattle.boog_map.specs.Reached.{IsReached}
-use Rattle.boog_map.specs.Netlist.{has_registers, HasRoomForCells, UsesFirstCells, StandsInOrder, HasOneCellEach, IsLeanFor}
+use Rattle.boog_map.specs.Netlist.{has_registers, HasRoomForCells, StandsInOrder, HasOneCellAtMost, HasFewInputs, IsLeanFor, IsTightFor}
 use Rattle.boog_map.specs.Tied.{AreParts, kind_for}
 use Rattle.boog_map.specs.Draft.{instance_of, register_spots, gate_spots, join_of, draft_by, IsDrawable}
 use Rattle.boog_map.specs.Mapped.{spots_of, IsSketch, IsMapped}
@@ -175,15 +175,6 @@ module _ (m : Machine) (checked : IsChecked m) (g : Graph) (sub : IsSubjectGraph
         let same : (parts.each s.0.kind).cell ≡ c = cc cell in
         ap (λ (x : Instance). x.pins) (sym s.1) ∙ (parts.each s.0.kind).is_part.pins ∙ ap (λ (x : Cell). names_of (all_ports x)) same
 
-    first : UsesFirstCells n l
-    first i h =
-        let s = of_spot i h in (
-          kind_for (has_registers m) s.0.kind,
-          (parts.each s.0.kind).cell,
-          (parts.each s.0.kind).chosen,
-          ap (λ (x : Instance). x.model) (sym s.1) ∙ (parts.each s.0.kind).is_part.model,
-        )
-
     order : StandsInOrder n l m
     order x seen =
         let z = sourced m checked g sub l passed ps parts sk.marks sk.reached k.drivers sk.drivers n sound finished.ports instances_is joined x seen in
@@ -194,8 +185,8 @@ module _ (m : Machine) (checked : IsChecked m) (g : Graph) (sub : IsSubjectGraph
           after = mapped_after z l m g is;
         }
 
-    each : HasOneCellEach n m g
-    each = record {
+    most : HasOneCellAtMost n m g
+    most = record {
       reached = marks_behind sk.marks (held_count m) g.nodes;
       many = behind_length sk.marks (held_count m) g.nodes;
       each = λ j low.
@@ -217,7 +208,7 @@ module _ (m : Machine) (checked : IsChecked m) (g : Graph) (sub : IsSubjectGraph
         (maps_it x seen) sub.small
 
     pub is_mapped : IsMapped n l m g
-    is_mapped = record { right = right; pins = pins; first = first; order = order; each = each; lean = lean; sound = sound }
+    is_mapped = record { right = right; pins = pins; order = order; most = most; few = ?; lean = lean; tight = ?; sound = sound }
 
 pub ok_both : {T E : Type 0} {P Q R : T → Type 0} (r : Result T E) → ((x : T) → P x → Q x → R x) → IfOk r P → IfOk r Q → IfOk r R
 ok_both (Ok x) f p q = f x p q

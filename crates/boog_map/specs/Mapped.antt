@@ -14,7 +14,7 @@ use Rattle.boog_map.specs.declared.place.Spot.{Spot}
 use Rattle.boog_map.specs.declared.build.Sketch.{Sketch}
 use Rattle.boog_map.specs.Reached.{AreReached}
 use Rattle.boog_map.specs.Draft.{register_spots, gate_spots, gate_drivers, output_terminal, tied_ports, AreDrivers}
-use Rattle.boog_map.specs.Netlist.{UsesFirstCells, StandsInOrder, HasOneCellEach, IsLeanFor}
+use Rattle.boog_map.specs.Netlist.{StandsInOrder, HasOneCellAtMost, HasFewInputs, IsLeanFor, IsTightFor}
 
 -- the instances of registers and of marked nodes
 abbrev pub spots_of : Machine → Graph → List Bool → List Spot
@@ -44,8 +44,9 @@ pub record IsSketch (m : Machine) (g : Graph) (ps : Parts) (k : Sketch) : Type 0
 pub record IsMapped (n : InMemory) (l : Library) (m : Machine) (g : Graph) : Type 0 where
   pub right : IsRightNetlist n l m
   pub pins : HasPinsOfCells n l
-  pub first : UsesFirstCells n l
   pub order : StandsInOrder n l m
-  pub each : HasOneCellEach n m g
+  pub most : HasOneCellAtMost n m g
+  pub few : HasFewInputs n m g
   pub lean : IsLeanFor n m
+  pub tight : IsTightFor n l
   pub sound : IsNetlist n

@@ -1,5 +1,5 @@
 -- What mapping asks of a machine and of a library, and what it gives beside a right netlist.
-use Rattle.std.specs.Prelude.{◌≡◌, ◌==◌, ◌↔◌, ℕ, ◌+◌, ◌*◌, ◌^◌, ◌<◌, Bool, not, List, length, Some, slice_get, IsTrue, filter}
+use Rattle.std.specs.Prelude.{◌≡◌, ◌==◌, ◌↔◌, ℕ, ◌+◌, ◌*◌, ◌^◌, ◌<◌, ◌≤◌, Bool, not, List, length, Some, slice_get, IsTrue, filter, sum_by}
 use Rattle.vlsi_base.specs.Member.{In}
 use Rattle.bool_expr.specs.Expression.{bit}
 use Rattle.machine_core.specs.Machine.{Machine}
@@ -8,10 +8,10 @@ use Rattle.vlsi_base.specs.declared.kind.Kind.{Kind}
 use Rattle.cell_model.specs.Cell.{Cell}
 use Rattle.cell_model.specs.Library.{Library, IsUsable}
 use Rattle.cell_model.specs.Covering.{HasKind, HasCellOf, needed, IsFirstMissing}
-use Rattle.net_core.specs.Netlist.{Instance, Netlist as InMemory}
-use Rattle.net_core.specs.Places.{IsThere}
+use Rattle.net_core.specs.Netlist.{Netlist as InMemory}
 use Rattle.net_meaning.specs.Netlist.{AbstractNetlist}
 use Rattle.net_right.specs.View.{IsSeenAs}
+use Rattle.net_tight.specs.Tight.{IsTight}
 use Rattle.net_meaning.specs.Order.{IsInNetlistOrder, IsLean}
 use Rattle.graph_theory.specs.Graph.{Graph, held_count}
 use Rattle.boog_map.specs.declared.error.MapError.{MapError}
@@ -42,21 +42,27 @@ pub record IsChosen (cells : List Cell) (k : Kind) (c : Cell) : Type 0 where
   pub kind : HasKind c k
   pub first : (j : ℕ) (d : Cell) → j < place → slice_get cells j ≡ Some d → IsUsable d → HasKind d k → ⊥
 
--- each instance has the first usable cell of some kind
-abbrev pub UsesFirstCells : InMemory → Library → Type 0
-UsesFirstCells n l = (i : Instance) → IsThere n.instances i → (k : Kind) × (c : Cell) × IsChosen l.cells k c × (i.model ≡ c.name)
-
 -- its instances stand in the order of a netlist: q0, q1 and so on, then g0, g1 and so on, each gate after those
 -- that it reads
 abbrev pub StandsInOrder : InMemory → Library → Machine → Type 0
 StandsInOrder n l m = (k : AbstractNetlist) → IsSeenAs n k → IsInNetlistOrder k l m 0
 
--- there is one cell for each register and for each node that is reached from a root
-pub record HasOneCellEach (n : InMemory) (m : Machine) (g : Graph) : Type 0 where
+-- there is at most one cell for each register and for each node that is reached from a root
+pub record HasOneCellAtMost (n : InMemory) (m : Machine) (g : Graph) : Type 0 where
   pub reached : List Bool
   pub many : length reached ≡ length g.nodes
   pub each : (j : ℕ) → j < length g.nodes → IsTrue (bit reached j) ↔ IsReached (held_count m) g (held_count m + j)
-  pub count : length n.instances ≡ length m.registers + length (filter (λ b. b) reached)
+  pub count : length n.instances ≤ length m.registers + length (filter (λ b. b) reached)
+
+-- beside an output and two supplies each instance has its inputs, and there are at most two of these for each register and each node
+-- of the graph
+abbrev pub HasFewInputs : InMemory → Machine → Graph → Type 0
+HasFewInputs n m g =
+    sum_by (λ i. length i.pins) n.instances ≤ 3 * length n.instances + 2 * (length m.registers + length g.nodes)
+
+-- no usable cell could stand for two gates, however the netlist is seen
+abbrev pub IsTightFor : InMemory → Library → Type 0
+IsTightFor n l = (k : AbstractNetlist) → IsSeenAs n k → IsTight k l
 
 -- so at most 2 more gates than the machine's size
 abbrev pub IsLeanFor : InMemory → Machine → Type 0

@@ -4,7 +4,7 @@ ghost use Rattle.net_right.specs.Right.{IsRightNetlist, HasPinsOfCells};
 ghost use Rattle.net_core.specs.Netlist.{IsNetlist};
 ghost use Rattle.graph_theory.specs.Graph.{held_count};
 ghost use Rattle.subject_graph.specs.Subject.{IsSubjectGraph};
-ghost use Rattle.boog_map.specs.Netlist.{HasRoomForCells, Covers, IsMapRefusal, UsesFirstCells, StandsInOrder, HasOneCellEach, IsLeanFor, has_registers};
+ghost use Rattle.boog_map.specs.Netlist.{HasRoomForCells, Covers, IsMapRefusal, StandsInOrder, HasOneCellAtMost, HasFewInputs, IsLeanFor, IsTightFor, has_registers};
 ghost use Rattle.boog_map.specs.Mapped.{IsPlan, IsSketch, IsMapped};
 
 use crate::MapError;
@@ -122,10 +122,11 @@ pub fn map(
     requires few { HasRoomForCells machine.now }
     ensures right { IfOk result (λ n. IsRightNetlist n library.now machine.now) }
     ensures pins { IfOk result (λ n. HasPinsOfCells n library.now) }
-    ensures first { IfOk result (λ n. UsesFirstCells n library.now) }
     ensures order { IfOk result (λ n. StandsInOrder n library.now machine.now) }
-    ensures each { IfOk result (λ n. HasOneCellEach n machine.now graph.now) }
+    ensures most { IfOk result (λ n. HasOneCellAtMost n machine.now graph.now) }
+    ensures few { IfOk result (λ n. HasFewInputs n machine.now graph.now) }
     ensures lean { IfOk result (λ n. IsLeanFor n machine.now) }
+    ensures tight { IfOk result (λ n. IsTightFor n library.now) }
     ensures sound { IfOk result (λ n. IsNetlist n) }
     ensures covered { OnOk result (Covers library.now machine.now) }
     ensures refused { IfErr result (λ e. IsMapRefusal library.now machine.now e) }

@@ -8,7 +8,7 @@ use Rattle.vlsi_base.specs.declared.kind.Kind.{Kind}
 use Rattle.cell_model.specs.Covering.{needed, IsFirstMissing}
 use Rattle.graph_theory.specs.Graph.{Graph}
 use Rattle.subject_graph.specs.Subject.{IsSubjectGraph}
-use Rattle.boog_map.specs.Netlist.{has_registers, Covers, UsesFirstCells, StandsInOrder, HasOneCellEach, IsLeanFor}
+use Rattle.boog_map.specs.Netlist.{has_registers, Covers, StandsInOrder, HasOneCellAtMost, HasFewInputs, IsLeanFor, IsTightFor}
 use Rattle.net_right.specs.Writable.{CanBeNamed, PinsCanBeWritten}
 use Rattle.cell_lib.specs.declared.error.LibError.{LibError}
 use Rattle.cell_lib.specs.Files.{with_library}
@@ -44,21 +44,22 @@ abbrev pub report : Netlist → List ℕ
 report n = count_line (codes "cells") (length n.instances)
 
 -- A netlist for a machine. The library has a usable cell of each kind that mapping needs. The netlist is right for the machine, each
--- instance has the pins of its cell, it meets the condition of the stages behind, has for each kind the first usable cell, stands in
--- order, and is lean: it has one cell for each register and for each node of the machine's subject graph that a root reaches, and no
--- other.
+-- instance has the pins of its cell, it meets the condition of the stages behind, stands in order, and is lean: it has at most one
+-- cell for each register and for each node of the machine's subject graph that a root reaches, and its gates have few inputs. It is
+-- tight: no usable cell of the library could stand for two of its gates.
 pub record IsNetlistFor (l : Library) (m : Machine) (n : Netlist) : Type 0 where
   pub sound : IsNetlist n
   pub covered : Covers l m
   pub right : IsRightNetlist n l m
   pub pins : HasPinsOfCells n l
   pub condition : MeetsConditionIn l n
-  pub first : UsesFirstCells n l
   pub order : StandsInOrder n l m
   pub lean : IsLeanFor n m
   pub graph : Graph
   pub subject : IsSubjectGraph m graph
-  pub each : HasOneCellEach n m graph
+  pub most : HasOneCellAtMost n m graph
+  pub few : HasFewInputs n m graph
+  pub tight : IsTightFor n l
 
 -- the text of the netlist, by a table of the usable cells' pins, is that of NAME.vst, and its number of instances is printed
 pub record IsWrittenAs (out : List ℕ) (l : Library) (n : Netlist) (p : Product) : Type 0 where
