@@ -57,14 +57,16 @@ found f g (t ∷ ts) z = if nat_eq (f t) z then g t else found f g ts z
 
 found_is : (f g : Terminal → ℕ) (ts : List Terminal) → ((t u : Terminal) → In t ts → In u ts → f t ≡ f u → g t ≡ g u) → (u : Terminal) → In u ts
     → found f g ts (f u) ≡ g u
+found_is f g [] same u at = elim at [ ]
 found_is f g (t ∷ ts) same u at = elim (eqb_tells (f t) (f u)) [
   | inl is ↦ ap (λ (b : Bool). if b then g t else found f g ts (f u)) is.0 ∙ same t u here at is.1
-  | inr isnt ↦ ap (λ (b : Bool). if b then g t else found f g ts (f u)) isnt.0 ∙ later u at isnt.1
+  | inr isnt ↦
+      ap (λ (b : Bool). if b then g t else found f g ts (f u)) isnt.0
+      ∙ later (found_is f g ts (λ v w v_at w_at. same v w (there v_at) (there w_at))) u at isnt.1
 ] where
-  later : (u : Terminal) → In u (t ∷ ts) → f t ≢ f u → found f g ts (f u) ≡ g u
-  later _ here apart = absurd (apart refl)
-  later u (there at) apart = found_is f g ts (λ v w v_at w_at. same v w (there v_at) (there w_at)) u at
-found_is f g [] same u at = elim at [ ]
+  later : ((v : Terminal) → In v ts → found f g ts (f v) ≡ g v) → (v : Terminal) → In v (t ∷ ts) → f t ≢ f v → found f g ts (f v) ≡ g v
+  later rest _ here apart = absurd (apart refl)
+  later rest v (there at) apart = rest v at
 
 -- the classes of an instance's pins, by both numberings
 classes_by : (f g : Terminal → ℕ) (to : ℕ → ℕ) (owner again : List ℕ) (pins : List Name) → again ≡ owner
