@@ -109,7 +109,7 @@ module _ (l : Library) (m : Machine) (n k : Netlist) (fanout delay : ℕ) (mappe
   abbrev seen_x : IsSeenAs n x
   seen_x = mapped_for.right.seen
 
-  growth : IsGrown n k
+  abbrev growth : IsGrown n k
   growth = grown n l fanout k delay made
 
   abbrev buffered : IsBuffered n l (most_sinks fanout) made.buffered
