@@ -1,12 +1,12 @@
 -- Where a netlist for a machine has no buffer, it is the mapped one but for drives of cells, and so it is as tight.
-use Rattle.std.proofs.Common.{◌≡◌, ◌↔◌, inr, ℕ, zero, suc, ◌+◌, ◌<◌, ◌≤◌, false, List, [], ◌∷◌, ◌++◌, map, length, codes, Some, refl, sym, ◌∙◌, ap, ap₂, subst, arith, append-nil, length-append}
+use Rattle.std.proofs.Common.{◌≡◌, ◌↔◌, inr, ℕ, zero, suc, ◌<◌, List, [], ◌∷◌, ◌++◌, map, length, codes, Some, refl, sym, ◌∙◌, ap, ap₂, subst, arith, append-nil, length-append}
 use Rattle.std.specs.List.{All, flat_map}
 use Rattle.std.proofs.lemmas.Option.{same_Some, slice_get_within}
 use Rattle.vlsi_base.specs.declared.name.Name.{Name}
 use Rattle.vlsi_base.specs.declared.name.Port.{Port}
 use Rattle.vlsi_base.specs.declared.name.Terminal.{Terminal}
 use Rattle.vlsi_base.specs.Member.{In, here}
-use Rattle.machine_core.specs.Machine.{Machine, names_of}
+use Rattle.machine_core.specs.Machine.{Machine}
 use Rattle.cell_model.specs.Access.{count_to}
 use Rattle.cell_model.specs.Cell.{Function, gate, flip_flop, other, opaque, Cell, pin_ports}
 use Rattle.cell_model.specs.Library.{Library, cell_of}
@@ -32,7 +32,7 @@ use Rattle.net_tight.specs.Alike.{IsSignalTerminal, a_port, a_pin, HasDrive, Are
 use Rattle.text_names.specs.Free.{free_texts}
 use Rattle.loon_wiring.specs.Repeaters.{Repeater, IsRepeater, buffer, inverters}
 use Rattle.loon_buffer.specs.Drives.{IsChosenFor}
-use Rattle.loon_fanout.specs.Sinks.{Wired, sinks, class_among, wired_of}
+use Rattle.loon_fanout.specs.Sinks.{Wired, sinks, wired_of}
 use Rattle.loon_fanout.specs.Limited.{AreGroups, last, next, Row, IsLimited, within, round, IsBuffered}
 use Rattle.loon_fanout.specs.Laws.{gate_named, LimitedStaysBeside}
 use Rattle.loon_fanout.specs.Nets.{HasNoBuffer}

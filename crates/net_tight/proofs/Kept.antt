@@ -1,5 +1,5 @@
 -- Tightness is kept where cells are exchanged for drives and classes are numbered in another way.
-use Rattle.std.proofs.Common.{◌≡◌, ◌≢◌, ◌⊎◌, inl, inr, ◌↔◌, ℕ, ◌<◌, Bool, true, false, List, [], ◌∷◌, ◌++◌, map, filter, not, length, get_or, AllPairs, ap, ap₂, sym, subst, ◌∙◌, arith, refl, nat_eq, if◌then◌else◌}
+use Rattle.std.proofs.Common.{◌≡◌, ◌≢◌, ◌⊎◌, inl, inr, ℕ, ◌<◌, Bool, List, [], ◌∷◌, ◌++◌, map, filter, not, length, get_or, AllPairs, ap, ap₂, sym, subst, ◌∙◌, arith, refl, nat_eq, if◌then◌else◌}
 use Prim.Native.Nat.{zero, suc}
 use Rattle.std.proofs.lemmas.Bool.Decides.{eqb_tells}
 use Rattle.std.proofs.lemmas.List.{length-map}
@@ -16,7 +16,7 @@ use Rattle.net_meaning.specs.Netlist.{Member, AbstractNetlist, port, pin_of}
 use Rattle.net_meaning.specs.Well.{Has}
 use Rattle.net_theory.specs.Exchanges.{IsSameFunction}
 use Rattle.net_theory.proofs.Basics.{In-names}
-use Rattle.net_tight.specs.Tight.{IsInputPin, an_input_pin, IsGateHere, IsPair, StandsFor, put, read_classes, pin_classes}
+use Rattle.net_tight.specs.Tight.{IsInputPin, an_input_pin, IsPair, StandsFor, put, read_classes, pin_classes}
 use Rattle.net_tight.specs.Alike.{IsSignalTerminal, a_port, a_pin, HasDrive, AreAlike, TightnessIsKept}
 
 -- ---- lists
