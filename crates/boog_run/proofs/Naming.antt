@@ -125,8 +125,8 @@ module _ (lists : CatalIsNamed) (pins_written : CellCanBeWritten) (list : List �
 
     model_named : (i : Instance) → In i n.instances → IsIdentifier i.model
     model_named i at =
-      let u = model_cell n l m netlist.right i at in
-      subst (λ (t : List ℕ). IsIdentifier t) u.2 (cell_named u.0 u.1)
+        let u = model_cell n l m netlist.right i at in
+        subst (λ (t : List ℕ). IsIdentifier t) u.2 (cell_named u.0 u.1)
 
     pub can_be_named : IsIdentifier m.name → CanBePorts (with_supplies m.ports) → CanBeNamed n
     can_be_named name ports = record {
