@@ -1,15 +1,14 @@
 -- What the equations and registers of a machine become.
-use Rattle.std.proofs.Common.{◌≡◌, ◌≢◌, inl, inr, ℕ, suc, ◌+◌, ◌<◌, ◌≤◌, Bool, true, List, [], ◌∷◌, ◌++◌, map, length, drop, refl, sym, ◌∙◌, ap, subst, arith, add-one, append-nil, drop-cons}
+use Rattle.std.proofs.Common.{◌≡◌, ◌≢◌, ◌↔◌, IsTrue, inl, inr, false, ℕ, suc, ◌+◌, ◌<◌, Bool, true, List, [], ◌∷◌, ◌++◌, map, length, drop, refl, sym, ◌∙◌, ap, subst, arith, add-one, append-nil, drop-cons}
 use Rattle.std.specs.List.{slice_index_or}
-use Rattle.bool_expr.specs.Expression.{constant}
-use Rattle.vlsi_base.specs.Member.{In}
+use Rattle.bool_expr.specs.Expression.{Expression, constant}
 use Rattle.machine_core.specs.Machine.{Machine, Register, inputs}
 use Rattle.machine_core.specs.declared.equation.Register.{Register as RegisterParts}
 use Rattle.machine_core.specs.View.{register_view}
 use Rattle.cell_model.specs.Access.{count_to}
 use Rattle.graph_theory.specs.Graph.{Node, held_count}
 use Rattle.subject_table.specs.declared.table.Table.{Table}
-use Rattle.subject_table.specs.View.{kinds, end_of}
+use Rattle.subject_table.specs.View.{kinds}
 use Rattle.subject_table.specs.Roots.{TakesOutputs}
 use Rattle.subject_table.specs.Rules.{Rule, Then, Gives, Becomes, IsChoice, Solve, IsLoad, Load}
 use Rattle.subject_table.specs.Makes.{Makes, Leads}
@@ -28,6 +27,10 @@ chosen t u v x r numbers own c a s not_one first second third =
     let all : Makes t x (Then e (λ i. Then n (λ j. IsChoice i j own))) s =
     then_makes t u x e (λ i. Then n (λ j. IsChoice i j own)) c s first (then_makes u v x n (λ j. IsChoice c j own) a s second third) in
     makes_also t x (Then e (λ i. Then n (λ j. IsChoice i j own))) (IsLoad r numbers own) s all (λ later made h. inr (not_one, h))
+
+-- an expression that a test found not to be the constant 1
+pub not_one : (test : Bool) (e : Expression) → (IsTrue test ↔ (e ≡ constant true)) → test ≡ false → e ≢ constant true
+not_one test e says not_so is = let so = says.1 is in absurd (cc (not_so, so))
 
 -- one register after another
 rest-cons : (registers : List RegisterParts) (i : ℕ) (e : RegisterParts) → i < length registers → e ≡ slice_index_or registers i e
@@ -72,9 +75,9 @@ pub drawn : (m : Machine) (start t u : Table) (numbers plain loads : List ℕ) �
 drawn m start t u numbers plain loads empty held first second takes =
     let S = Solve m.equations (count_to (held_count m)) in
     let L : List ℕ → Rule (List ℕ) = λ ns. Load m.registers ns (length (inputs m)) [] in
-    let last : Makes u u (Gives (numbers, loads)) (numbers, loads) = makes_here u (Gives (numbers, loads)) (numbers, loads) [] (λ later. (refl, refl)) in
+    let last_one : Makes u u (Gives (numbers, loads)) (numbers, loads) = makes_here u (Gives (numbers, loads)) (numbers, loads) [] (λ later. (refl, refl)) in
     let rest : Makes t u (Then (L numbers) (λ ls. Gives (numbers, ls))) (numbers, loads) =
-    then_makes t u u (L numbers) (λ ls. Gives (numbers, ls)) loads (numbers, loads) second last in
+    then_makes t u u (L numbers) (λ ls. Gives (numbers, ls)) loads (numbers, loads) second last_one in
     let all : Makes start u (Draw m) (numbers, loads) = then_makes start t u S (λ ns. Then (L ns) (λ ls. Gives (ns, ls))) numbers (numbers, loads) first rest in
     let z = all.is [] in
     record {

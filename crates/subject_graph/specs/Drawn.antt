@@ -1,5 +1,5 @@
 -- Which nodes a machine's graph has: those that its equations and registers become, each operator by the table.
-use Rattle.std.specs.Prelude.{◌≡◌, ℕ, ◌+◌, ◌<◌, ◌≤◌, List, [], length}
+use Rattle.std.specs.Prelude.{ℕ, ◌+◌, ◌<◌, ◌≤◌, List, [], length}
 use Rattle.vlsi_base.specs.Member.{In}
 use Rattle.machine_core.specs.Machine.{Machine, inputs}
 use Rattle.cell_model.specs.Access.{count_to}

@@ -7,7 +7,7 @@ use Rattle.subject_graph.specs.Stages.{load_value}
 use Rattle.subject_table.specs.Rules.{IsChoice, IsLoad}
 use Rattle.subject_table.specs.Makes.{Makes}
 use Rattle.subject_graph.proofs.Loading.{chooses}
-use Rattle.subject_graph.proofs.Drawing.{chosen}
+use Rattle.subject_graph.proofs.Drawing.{chosen, not_one}
 use Rattle.subject_graph.proofs.loads.load_number.Goals as goal
 
 pub returns-clause-value : goal.returns-clause-value
@@ -30,6 +30,6 @@ returns-clause-made c =
     on_ok c.choice.result (λ s. Makes c.expr-3.new.self c.choice.new.self (IsChoice c.in_ok-enable.enable c.in_ok-next.next own) s)
     (λ s. Makes c.args.table.now c.choice.new.self (IsLoad r xs own) s)
     (λ s h.
-    chosen c.args.table.now c.expr-2.new.self c.expr-3.new.self c.choice.new.self r xs own c.in_ok-enable.enable c.in_ok-next.next s ? c.in_ok-enable.ensures.made
+    chosen c.args.table.now c.expr-2.new.self c.expr-3.new.self c.choice.new.self r xs own c.in_ok-enable.enable c.in_ok-next.next s (not_one c.is_one.result r.enable c.is_one.ensures c.if-is_one.false) c.in_ok-enable.ensures.made
     c.in_ok-next.ensures.made h)
     c.choice.ensures.made

@@ -25,11 +25,11 @@ loop-k-preserved c =
     let low = c.loop-k-test.true in
     let held = c.requires.held in (
       rw (views.0, c.in_ok-push.ensures.items)
-      (one_more c.args.table.now c.loop-k.table c.load_number.new.table c.args.numbers.now first (first + c.loop-k.k) (map register_view (take c.loop-k.k c.args.registers.now)) c.loop-k.loads.items
-      (register_view c.index-registers-k.result) c.in_ok-number.number c.requires.known (omega (arith, low, held)) (omega (arith, size)) c.loop-k.invariant.0 c.in_ok-number.ensures.value),
+          (one_more c.args.table.now c.loop-k.table c.load_number.new.table c.args.numbers.now first (first + c.loop-k.k) (map register_view (take c.loop-k.k c.args.registers.now)) c.loop-k.loads.items
+          (register_view c.index-registers-k.result) c.in_ok-number.number c.requires.known (omega (arith, low, held)) (omega (arith, size)) c.loop-k.invariant.0 c.in_ok-number.ensures.value),
       rw c.in_ok-push.ensures.items
-      (loads_on c.args.table.now c.loop-k.table c.load_number.new.table c.args.numbers.now first c.loop-k.k c.args.registers.now c.loop-k.loads.items c.index-registers-k.result
-      c.in_ok-number.number low c.index-registers-k.is c.loop-k.invariant.1 c.in_ok-number.ensures.made),
+          (loads_on c.args.table.now c.loop-k.table c.load_number.new.table c.args.numbers.now first c.loop-k.k c.args.registers.now c.loop-k.loads.items c.index-registers-k.result
+          c.in_ok-number.number low c.index-registers-k.is c.loop-k.invariant.1 c.in_ok-number.ensures.made),
     )
 
 pub load_number-requires-clause-room : goal.load_number-requires-clause-room
