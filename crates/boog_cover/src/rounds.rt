@@ -11,9 +11,9 @@ use std::alloc::{AllocError, Global};
 use subject_graph::Graph;
 
 /// How often the cells are chosen, and how often before the readers of each node are forgotten once.
-const ROUNDS: usize = 5;
+const ROUNDS: usize = 4;
 
-const SHARED: usize = 3;
+const SHARED: usize = 2;
 
 fn add_reader(readers: &mut [u32], number: u32) {
     if let Some(count) = readers.get_mut(number as usize) {
