@@ -1,5 +1,5 @@
 // Rounds of choices.
-ghost use Rattle.std.specs.Prelude.{◌≤◌, ◌+◌, ◌<◌, ◌^◌, map, length, IfOk};
+ghost use Rattle.std.specs.Prelude.{◌≤◌, map, IfOk};
 ghost use Rattle.cell_match.specs.Matches.{IsTable};
 ghost use Rattle.boog_cuts.specs.Cuts.{IsCutTable};
 ghost use Rattle.boog_cover.specs.Choices.{AreChosen};
