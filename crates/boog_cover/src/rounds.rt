@@ -1,5 +1,5 @@
 // Rounds of choices.
-ghost use Rattle.std.specs.Prelude.{◌≤◌, ◌+◌, ◌<◌, ◌^◌, map, length, IfOk};
+ghost use Rattle.std.specs.Prelude.{◌≤◌, map, IfOk};
 ghost use Rattle.cell_match.specs.Matches.{IsTable};
 ghost use Rattle.boog_cuts.specs.Cuts.{IsCutTable};
 ghost use Rattle.boog_cover.specs.Choices.{AreChosen};
@@ -10,8 +10,10 @@ use cell_match::{CellWord, Gate, Table};
 use std::alloc::{AllocError, Global};
 use subject_graph::Graph;
 
-/// How often the cells are chosen anew.
-const ROUNDS: usize = 3;
+/// How often the cells are chosen, and how often before the readers of each node are forgotten once.
+const ROUNDS: usize = 4;
+
+const SHARED: usize = 2;
 
 fn add_reader(readers: &mut [u32], number: u32) {
     if let Some(count) = readers.get_mut(number as usize) {
@@ -70,7 +72,7 @@ fn area_of(gates: &[Option<Gate>], areas: &[u32], readers: &[u32]) -> u64 {
 }
 
 /// The gates of some rounds, of which the first shares a node's cost among those that read it in the graph, and each further one among
-/// those that read it in the cover before; those of least area. Takes memory for them.
+/// those that read it in the cover before; one in between shares none. Of all these covers the one of least area. Takes memory for them.
 pub(crate) fn chosen<const K: usize>(
     alloc: Global,
     cells: &[CellWord],
@@ -90,7 +92,10 @@ pub(crate) fn chosen<const K: usize>(
     let mut gates = choices(alloc, cells, areas, table, cuts, held, graph, &in_graph)?;
     let mut counts = cover_readers(alloc, &gates, roots)?;
     let mut least = area_of(&gates, areas, &counts);
-    for _ in 1..ROUNDS {
+    for round in 1..ROUNDS {
+        if round == SHARED {
+            counts.clear();
+        }
         let next = choices(alloc, cells, areas, table, cuts, held, graph, &counts)?;
         counts = cover_readers(alloc, &next, roots)?;
         let area = area_of(&next, areas, &counts);
