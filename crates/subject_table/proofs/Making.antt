@@ -1,5 +1,5 @@
 -- Rules that are followed one part after another.
-use Rattle.std.proofs.Common.{◌≡◌, ℕ, ◌+◌, ◌<◌, ◌≤◌, List, [], ◌∷◌, ◌++◌, length, refl, sym, ◌∙◌, ap, subst, arith, append_assoc, append-nil, inl, inr}
+use Rattle.std.proofs.Common.{◌≡◌, ℕ, List, [], ◌++◌, refl, sym, ◌∙◌, ap, subst, arith, append_assoc, append-nil, inl, inr}
 use Rattle.std.proofs.lemmas.Bool.{cases_lt}
 use Rattle.vlsi_base.specs.Member.{In}
 use Rattle.machine_core.proofs.Values.{In-left, In-right}
@@ -7,7 +7,7 @@ use Rattle.graph_theory.specs.Graph.{Node}
 use Rattle.subject_table.specs.declared.table.Table.{Table}
 use Rattle.subject_table.specs.View.{kinds, end_of}
 use Rattle.subject_table.specs.Rules.{Rule, Then, Gives}
-use Rattle.subject_table.specs.Makes.{Made, Makes, Turned, Leads}
+use Rattle.subject_table.specs.Makes.{Makes, Turned, Leads}
 
 -- by the rule this is made as well, and no less
 pub record Covers {A : Type 0} (rule : Rule A) (n : ℕ) (nodes : List Node) (r : A) (less : List ℕ) : Type 0 where

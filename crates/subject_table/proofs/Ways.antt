@@ -12,7 +12,7 @@ use Rattle.subject_table.specs.declared.steps.Step.TheVariants as step
 use Rattle.subject_table.specs.declared.table.Table.{Table}
 use Rattle.subject_table.specs.Rules.{Rule, Then, Gives, IsInverse, IsPair, IsChoice, Becomes}
 use Rattle.subject_table.specs.Makes.{Makes, Leads, IsStep, IsClimb}
-use Rattle.subject_table.proofs.Making.{Covers, sets_out, goes_on, otherwise, arrived, alone, ends, makes_here}
+use Rattle.subject_table.proofs.Making.{sets_out, goes_on, otherwise, arrived, alone, ends, makes_here}
 
 -- the innermost of some operators comes first
 climb_push : (ss : List Step) (s : Step) (x n : ℕ) (nodes : List Node) (r : ℕ) (made : List ℕ) → IsClimb (ss ++ s ∷ []) x n nodes r made

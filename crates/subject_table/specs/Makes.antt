@@ -1,6 +1,5 @@
 -- How a table makes nodes by a rule.
 use Rattle.std.specs.Prelude.{◌≡◌, ℕ, ◌<◌, ◌≤◌, List, [], ◌∷◌, ◌++◌}
-use Rattle.bool_expr.specs.declared.expr.Gate.{Gate}
 use Rattle.vlsi_base.specs.Member.{In}
 use Rattle.graph_theory.specs.Graph.{Node}
 use Rattle.subject_table.specs.declared.steps.Step.{Step}

@@ -1,4 +1,4 @@
-use Rattle.std.proofs.Common.{◌≡◌, true, false}
+use Rattle.std.proofs.Common.{true, false}
 use Rattle.graph_theory.specs.Graph.{fixed, nand}
 use Rattle.subject_table.specs.Grows.{IsNode}
 use Rattle.subject_table.specs.Rules.{OneNode, IsInverse, IsNand}
