@@ -1,5 +1,5 @@
 -- What is known of a gate of a checked library.
-use Rattle.std.proofs.Common.{◌≡◌, ◌⊎◌, inl, inr, ℕ, ◌<◌, ◌≤◌, Bool, false, List, length, refl, sym, ◌∙◌, ap, subst, arith}
+use Rattle.std.proofs.Common.{◌≡◌, inl, inr, ℕ, ◌≤◌, false, length, refl, sym, ◌∙◌, subst, arith}
 use Rattle.std.proofs.lemmas.Bool.{cases_lt}
 use Rattle.bool_expr.specs.Expression.{Expression}
 use Rattle.cell_model.specs.Cell.{Function, gate, Cell, cell_inputs}

@@ -1,5 +1,5 @@
 -- One cell more among those whose gates are listed.
-use Rattle.std.proofs.Common.{◌≡◌, ◌⊎◌, inl, inr, ℕ, zero, suc, ◌+◌, ◌<◌, ◌≤◌, List, [], ◌∷◌, ◌++◌, length, map, take, get_or, Option, None, Some, IfSome, IfNone, refl, sym, ◌∙◌, ap, subst, arith}
+use Rattle.std.proofs.Common.{◌≡◌, inl, inr, ℕ, zero, suc, ◌+◌, ◌<◌, ◌≤◌, List, [], ◌∷◌, ◌++◌, length, map, take, get_or, Option, None, Some, IfSome, IfNone, refl, sym, ◌∙◌, ap, subst, arith}
 use Rattle.std.specs.Prelude.{slice_get, sum_by}
 use Rattle.std.specs.List.Sorted.{IsPermutation}
 use Rattle.std.proofs.lemmas.Bool.{cases_lt}
@@ -8,8 +8,7 @@ use Rattle.std.proofs.lemmas.List.Sums.{sum_by-cons}
 use Rattle.std.proofs.lemmas.List.Sorted.{IsPermutation-sym, Contains-permutation, sum_by-IsPermutation}
 use Rattle.std.proofs.lemmas.Option.{slice_get_within}
 use Rattle.vlsi_base.specs.Member.{In, here, there}
-use Rattle.bool_expr.specs.Expression.{Expression}
-use Rattle.cell_model.specs.Cell.{gate, Cell}
+use Rattle.cell_model.specs.Cell.{Cell}
 use Rattle.cell_model.specs.Library.{IsUsable}
 use Rattle.cell_model.proofs.Members.{In-split, In-left, In-right, In-at, place-In}
 use Rattle.cell_match.specs.Places.{times}

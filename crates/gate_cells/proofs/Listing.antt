@@ -1,5 +1,5 @@
 -- Entries as lists of words, areas and places.
-use Rattle.std.proofs.Common.{◌≡◌, ℕ, zero, suc, ◌+◌, ◌<◌, ◌≤◌, List, [], ◌∷◌, length, map, Option, Some, refl, sym, ◌∙◌, ap, subst, arith}
+use Rattle.std.proofs.Common.{◌≡◌, ℕ, zero, suc, ◌≤◌, List, [], ◌∷◌, length, map, Some, refl, sym, ◌∙◌, ap, subst, arith}
 use Rattle.std.specs.Prelude.{slice_get}
 use Rattle.std.specs.List.Sorted.{IsNonDecreasingBy}
 use Rattle.std.proofs.lemmas.List.{length-map}
@@ -67,8 +67,8 @@ module _ (cells : List Cell) (l : Library) (is : library_of cells ≡ l) (xs : L
 
   own_gates : AreGateCells own g
   own_gates = record {
-    words = let a = ap length words in let b = length-map word_in xs in let c = ap length places in let d = length-map place_in xs in omega (arith, a, b, c, d);
-    areas = let a = ap length areas in let b = length-map area_in xs in let c = ap length places in let d = length-map place_in xs in omega (arith, a, b, c, d);
+    words = let a = ap length words in let b = length-map xs word_in in let c = ap length places in let d = length-map xs place_in in omega (arith, a, b, c, d);
+    areas = let a = ap length areas in let b = length-map xs area_in in let c = ap length places in let d = length-map xs place_in in omega (arith, a, b, c, d);
     each = listed_at;
     every = λ p c e h usable is_gate.
         let r = are.every p c e h usable is_gate in
