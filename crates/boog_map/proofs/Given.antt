@@ -245,11 +245,11 @@ pub of_library : (cells : List Cell) (l : Library) → library_of cells ≡ l �
 of_library cells l is P h = subst P (sym (ap (λ (x : Library). x.cells) is)) h
 
 -- the roles of a library's cells
-pub roles_of_library : (cells : List Cell) (l : Library) (m : Machine) (b : Bool) (ps : Parts) → library_of cells ≡ l → b ≡ has_registers m → AreParts cells b ps
-    → AreRoles l.cells (has_registers m) ps
+pub roles_of_library : (cells : List Cell) (l : Library) (m : Machine) (b : Bool) (ps : Parts) → library_of cells ≡ l → b ≡ has_registers m
+    → AreParts (library_of cells) b ps → AreRoles l.cells (has_registers m) ps
 roles_of_library cells l m b ps is same h =
-    roles l.cells (has_registers m) ps
-    (subst (λ (cs : List Cell). AreParts cs (has_registers m) ps) (ap (λ (x : Library). x.cells) is) (subst (λ (r : Bool). AreParts cells r ps) same h))
+    roles l (has_registers m) ps
+    (subst (λ (x : Library). AreParts x (has_registers m) ps) is (subst (λ (r : Bool). AreParts (library_of cells) r ps) same h))
 
 module _ (m : Machine) (checked : IsChecked m) (g : Graph) (sub : IsSubjectGraph m g) (l : Library) (passed : HasPassed false l) (room : HasRoomForCells m) (ps : Parts)
     (parts : AreRoles l.cells (has_registers m) ps) (gs : List (Option Gate)) (cov : IsCovered (gate_words ps) (held_count m) g.nodes (root_numbers g) gs)

@@ -2,6 +2,7 @@ pub mod Lists
 pub mod Marks
 pub mod Dropped
 pub mod Roles
+pub mod PartsAt
 pub mod Classes
 pub mod Supplied
 pub mod PortSignals
@@ -19,7 +20,6 @@ pub mod Building
 pub mod Joining
 pub mod Adding
 pub mod Choosing
-pub mod Choices
 pub mod Planning
 pub mod Planned
 pub mod Given

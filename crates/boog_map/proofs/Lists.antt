@@ -1,5 +1,5 @@
 -- Places of a list's elements.
-use Rattle.std.proofs.Common.{◌≡◌, ℕ, zero, suc, ◌+◌, ◌<◌, List, [], ◌∷◌, ◌++◌, length, map, Some, refl, sym, ap, ◌∙◌, arith, get_or, drop, drop-cons, add-one}
+use Rattle.std.proofs.Common.{◌≡◌, ℕ, zero, suc, ◌+◌, ◌<◌, ◌≤◌, List, [], ◌∷◌, ◌++◌, length, map, take, Some, refl, sym, ap, ◌∙◌, arith, get_or, drop, drop-cons, add-one}
 use Rattle.std.proofs.lemmas.Option.{slice_get_within, get_or_from_slice_get}
 use Rattle.vlsi_base.specs.Member.{In, here, there}
 use Rattle.net_core.specs.Places.{Stands, IsThere}
@@ -61,3 +61,15 @@ pub mapped_number : {A B : Type 0} (f : A → B) (xs : List A) (k : ℕ) (x : A)
 mapped_number f [] k x h = absurd h
 mapped_number f (y ∷ xs) zero x h = ap f h
 mapped_number f (y ∷ xs) (suc k) x h = mapped_number f xs k x h
+
+pub take_all : {A : Type 0} (xs : List A) (i : ℕ) → length xs ≤ i → take i xs ≡ xs
+take_all [] zero h = refl
+take_all [] (suc i) h = refl
+take_all (x ∷ xs) zero h = absurd (omega (arith, h))
+take_all {A} (x ∷ xs) (suc i) h = ap (λ (ys : List A). x ∷ ys) (take_all xs i (omega (arith, h)))
+
+-- what is read where an element stands doesn't hang on what is read elsewhere
+pub read_same : {A : Type 0} (xs : List A) (i : ℕ) (d e : A) → i < length xs → get_or xs i d ≡ get_or xs i e
+read_same [] i d e low = absurd (omega (arith, low))
+read_same (x ∷ xs) zero d e low = refl
+read_same (x ∷ xs) (suc i) d e low = read_same xs i d e (omega (arith, low))

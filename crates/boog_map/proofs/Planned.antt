@@ -12,7 +12,7 @@ use Rattle.cell_match.specs.declared.gate.Gate.{Gate}
 use Rattle.boog_map.specs.Netlist.{HasRoomForCells}
 use Rattle.boog_map.specs.Mapped.{node_gates}
 use Rattle.boog_map.proofs.Dropped.{dropped_count}
-use Rattle.boog_map.proofs.Choices.{take_all}
+use Rattle.boog_map.proofs.Lists.{take_all}
 use Rattle.boog_map.proofs.Planning.{inputs_first}
 use Rattle.boog_map.proofs.Rooms.{numbers_fit}
 

@@ -1,7 +1,9 @@
 -- The cells that a netlist is made of, by the roles of its instances.
-use Rattle.std.proofs.Common.{◌≡◌, ◌≢◌, inl, inr, ℕ, ◌<◌, ◌≤◌, Bool, true, false, List, [], ◌∷◌, length, map, refl, sym, ◌∙◌, ap, subst, arith, get_or}
+use Rattle.std.proofs.Common.{◌≡◌, ◌≢◌, inl, inr, ℕ, ◌<◌, ◌≤◌, Bool, true, false, List, [], ◌∷◌, length, Some, refl, sym, ◌∙◌, ap, subst, arith, get_or}
 use Rattle.std.proofs.lemmas.Bool.{cases_lt}
+use Rattle.std.specs.Prelude.{slice_get}
 use Rattle.std.proofs.lemmas.List.{get_or_past}
+use Rattle.std.proofs.lemmas.Option.{slice_get_within}
 use Rattle.vlsi_base.specs.Member.{In, here, there}
 use Rattle.vlsi_base.specs.declared.name.Name.{Name}
 use Rattle.vlsi_base.specs.declared.kind.Kind.{Kind}
@@ -9,23 +11,21 @@ use Rattle.vlsi_base.specs.declared.kind.Kind.TheVariants as kind
 use Rattle.bool_expr.specs.Expression.{Expression, val}
 use Rattle.truth_tab.specs.Table.{value_of}
 use Rattle.cell_model.specs.Cell.{Function, gate, flip_flop, other, opaque, Cell, cell_inputs}
-use Rattle.cell_model.specs.Library.{IsUsable, IsPlain}
+use Rattle.cell_model.specs.Library.{Library, IsUsable, IsPlain}
 use Rattle.cell_model.specs.Covering.{IsGateOf, IsFunctionOf, HasKind, HasCellOf, needed}
 use Rattle.cell_match.specs.declared.gate.CellWord.{CellWord}
 use Rattle.cell_match.specs.declared.gate.Gate.{Gate}
 use Rattle.cell_match.specs.Cells.{blank, inputs_of, cell_value, IsGate}
+use Rattle.gate_cells.specs.Listed.{IsGateCell}
 use Rattle.boog_cover.specs.Covered.{HasCells, HasFixed, HasInv, HasNand}
-use Rattle.net_core.proofs.Frames.{mapped}
-use Rattle.net_theory.specs.Sources.{IsNumber}
-use Rattle.net_theory.proofs.Basics.{at_number, number_in, number_of, number_below, length-map}
+use Rattle.net_core.proofs.Standing.{stands_same}
 use Rattle.net_tight.specs.Carries.{IsCell}
 use Rattle.boog_map.specs.declared.part.Part.{Part}
-use Rattle.boog_map.specs.declared.choice.GateCell.{GateCell}
 use Rattle.boog_map.specs.declared.choice.Role.{Role}
 use Rattle.boog_map.specs.declared.choice.Role.TheVariants as role
 use Rattle.boog_map.specs.declared.choice.Parts.{Parts}
-use Rattle.boog_map.specs.Tied.{IsPart, IsGateCell, AreParts, register_kind, part_of, gate_words, HaveFewInputs}
-use Rattle.boog_map.proofs.Lists.{got, number_stands}
+use Rattle.boog_map.specs.Tied.{IsPart, AreParts, register_kind, part_of, gate_words, HaveFewInputs}
+use Rattle.boog_map.proofs.Lists.{in_there, there_in, stands_at, got}
 
 -- ---- what kinds say of functions
 
@@ -43,27 +43,15 @@ flip_of opaque n h = absurd h
 
 -- ---- the gates by their numbers
 
-abbrev word_in : GateCell → CellWord
-word_in x = x.word
-
-abbrev part_in : GateCell → Part
-part_in x = x.part
-
-word_read : (xs : List GateCell) (k : ℕ) (x : GateCell) → IsNumber xs k x → get_or (map word_in xs) k blank ≡ x.word
-word_read xs k x h = got (map word_in xs) k x.word blank (mapped word_in xs k x (number_stands xs k x h))
-
-part_read : (xs : List GateCell) (k : ℕ) (x : GateCell) (d : Part) → IsNumber xs k x → get_or (map part_in xs) k d ≡ x.part
-part_read xs k x d h = got (map part_in xs) k x.part d (mapped part_in xs k x (number_stands xs k x h))
-
 -- number k of the words is the word of this cell
-word_is : (xs : List GateCell) (k : ℕ) (x : GateCell) (c : Cell) → IsNumber xs k x → (is : IsGateCell c x) → IsCell (map word_in xs) k c is.expr
-word_is xs k x c h is =
-    let word : get_or (map word_in xs) k blank ≡ x.word = word_read xs k x h in
-    let inputs : inputs_of (map word_in xs) k ≡ length (cell_inputs c) = ap (λ (w : CellWord). w.inputs) word ∙ is.inputs in
+word_is : (words : List CellWord) (k area : ℕ) (w : CellWord) (c : Cell) → slice_get words k ≡ Some w → (is : IsGateCell c w area) → IsCell words k c is.expr
+word_is words k area w c at is =
+    let word : get_or words k blank ≡ w = got words k w blank at in
+    let inputs : inputs_of words k ≡ length (cell_inputs c) = ap (λ (x : CellWord). x.inputs) word ∙ is.inputs in
     record {
-      there = let low = number_below xs k x h in let size = length-map word_in xs in omega (arith, low, size);
+      there = slice_get_within words k w at;
       inputs = inputs;
-      value = λ w long. ap (λ (y : CellWord). value_of y.word.word w) word ∙ is.value w (long ∙ inputs);
+      value = λ v long. ap (λ (x : CellWord). value_of x.word.word v) word ∙ is.value v (long ∙ inputs);
     }
 
 -- ---- roles
@@ -90,8 +78,8 @@ pub record AreRoles (cells : List Cell) (registers : Bool) (ps : Parts) : Type 0
 pub one_expr : (c : Cell) (e f : Expression) → c.function ≡ gate e → c.function ≡ gate f → e ≡ f
 one_expr c e f p q = let same : gate e ≡ gate f = sym p ∙ q in cc
 
-module _ (cells : List Cell) (registers : Bool) (ps : Parts) (parts : AreParts cells registers ps) where
-  of_register : (p : Part) → p ≡ ps.register → IsRole cells p
+module _ (l : Library) (registers : Bool) (ps : Parts) (parts : AreParts l registers ps) where
+  of_register : (p : Part) → p ≡ ps.register → IsRole l.cells p
   of_register p same = record {
     cell = parts.register.cell;
     listed = parts.register.chosen.listed;
@@ -99,44 +87,90 @@ module _ (cells : List Cell) (registers : Bool) (ps : Parts) (parts : AreParts c
     is_part = subst (λ (q : Part). IsPart parts.register.cell q) (sym same) parts.register.is_part;
   }
 
+  -- what stands at number k
+  record Entry (k : ℕ) : Type 0 where
+    pub word : CellWord
+    pub area : ℕ
+    pub place : ℕ
+    pub part : Part
+    pub at_word : slice_get (gate_words ps) k ≡ Some word
+    pub at_area : slice_get ps.cells.areas.items k ≡ Some area
+    pub at_place : slice_get ps.cells.places.items k ≡ Some place
+    pub at_part : slice_get ps.gates.items k ≡ Some part
+
+  entry : (k : ℕ) → k < length ps.cells.places.items → Entry k
+  entry k low =
+      let words = parts.cells.words in
+      let areas = parts.cells.areas in
+      let many = parts.gates.many in
+      let w = stands_at (gate_words ps) k (omega (arith, low, words)) in
+      let a = stands_at ps.cells.areas.items k (omega (arith, low, areas)) in
+      let p = stands_at ps.cells.places.items k low in
+      let q = stands_at ps.gates.items k (omega (arith, low, many)) in
+      record { word = w.0; area = a.0; place = p.0; part = q.0; at_word = w.1; at_area = a.1; at_place = p.1; at_part = q.1 }
+
+  -- its cell
+  record Standing (k : ℕ) : Type 0 where
+    pub own : Entry k
+    pub cell : Cell
+    pub at : slice_get l.cells own.place ≡ Some cell
+    pub is : IsGateCell cell own.word own.area
+    pub is_part : IsPart cell own.part
+
+  gate_at : (k : ℕ) → k < length ps.cells.places.items → Standing k
+  gate_at k low =
+      let e = entry k low in
+      let c = parts.cells.each k e.word e.area e.place e.at_word e.at_area e.at_place in
+      record { own = e; cell = c.0; at = c.1; is = c.2; is_part = parts.gates.each k e.place c.0 e.part e.at_place c.1 e.at_part }
+
   abbrev Told : ℕ → Type 0
-  Told k = (r : IsRole cells (part_of ps (role.Gate k))) × (k < length (gate_words ps) → IsGateRole (gate_words ps) k r.cell)
+  Told k = (r : IsRole l.cells (part_of ps (role.Gate k))) × (k < length (gate_words ps) → IsGateRole (gate_words ps) k r.cell)
 
   told : (k : ℕ) → Told k
-  told k = elim (cases_lt k (length ps.gates.items)) [
+  told k = elim (cases_lt k (length ps.cells.places.items)) [
     | inl low ↦
-        let x = at_number ps.gates.items k low in
-        let c = parts.gates.each x.0 (number_in ps.gates.items k x.0 x.1) in (
+        let g = gate_at k low in (
           record {
-            cell = c.0;
-            listed = c.1;
-            usable = c.2.usable;
-            is_part = subst (λ (q : Part). IsPart c.0 q) (sym (part_read ps.gates.items k x.0 ps.register x.1)) c.2.is_part;
+            cell = g.cell;
+            listed = there_in l.cells g.own.place g.cell g.at;
+            usable = g.is.usable;
+            is_part = subst (λ (q : Part). IsPart g.cell q) (sym (got ps.gates.items k g.own.part ps.register g.own.at_part)) g.is_part;
           },
-          λ h. record { expr = c.2.expr; is_gate = c.2.is_gate; is_cell = word_is ps.gates.items k x.0 c.0 x.1 c.2 },
+          λ h. record { expr = g.is.expr; is_gate = g.is.is_gate; is_cell = word_is (gate_words ps) k g.own.area g.own.word g.cell g.own.at_word g.is },
         )
     | inr high ↦
-        let size = length-map part_in ps.gates.items in
-        let words = length-map word_in ps.gates.items in (
-          of_register (part_of ps (role.Gate k)) (get_or_past (map part_in ps.gates.items) k ps.register (omega (arith, high, size))),
+        let many = parts.gates.many in
+        let words = parts.cells.words in (
+          of_register (part_of ps (role.Gate k)) (get_or_past ps.gates.items k ps.register (omega (arith, high, many))),
           λ h. absurd (omega (arith, h, high, words)),
         )
   ]
 
-  role_of : (r : Role) → IsRole cells (part_of ps r)
+  role_of : (r : Role) → IsRole l.cells (part_of ps r)
   role_of role.Register = of_register ps.register refl
   role_of (role.Gate k) = (told k).0
 
-  pub roles : AreRoles cells registers ps
+  every_gate : (c : Cell) (e : Expression) → In c l.cells → IsUsable c → c.function ≡ gate e → (k : ℕ) × IsCell (gate_words ps) k c e
+  every_gate c e listed usable is_gate =
+      let p = in_there c l.cells listed in
+      let k = parts.cells.every p.0 c e p.1 usable is_gate in
+      let g = gate_at k.0 (slice_get_within ps.cells.places.items k.0 p.0 k.1) in
+      let place : g.own.place ≡ p.0 = stands_same ps.cells.places.items k.0 g.own.place p.0 g.own.at_place k.1 in
+      let P : ℕ → Type 0 = λ n. slice_get l.cells n ≡ Some g.cell in
+      let same : g.cell ≡ c = stands_same l.cells p.0 g.cell c (subst P place g.at) p.1 in
+      let is : IsGateCell c g.own.word g.own.area = subst (λ (x : Cell). IsGateCell x g.own.word g.own.area) same g.is in (
+        k.0,
+        subst (λ (f : Expression). IsCell (gate_words ps) k.0 c f) (one_expr c is.expr e is.is_gate is_gate)
+            (word_is (gate_words ps) k.0 g.own.area g.own.word c g.own.at_word is),
+      )
+
+  pub roles : AreRoles l.cells registers ps
   unfolding role_of of_register
   roles = record {
     each = role_of;
     flip = λ is. subst (λ (b : Bool). HasKind parts.register.cell (register_kind b)) is parts.register.chosen.kind;
     of_gate = λ k low. (told k).1 low;
-    every = λ c e listed usable is_gate.
-        let r = parts.gates.every c e listed usable is_gate in
-        let k = number_of r.0 ps.gates.items r.1 in
-        (k.0, subst (λ (f : Expression). IsCell (gate_words ps) k.0 c f) (one_expr c r.2.expr e r.2.is_gate is_gate) (word_is ps.gates.items k.0 r.0 c k.1 r.2));
+    every = every_gate;
   }
 
 -- ---- the cells of registers and of gates

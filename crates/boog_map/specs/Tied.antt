@@ -1,28 +1,26 @@
 -- Cells by what their pins are tied to, and the cells that a netlist is made of.
-use Rattle.std.specs.Prelude.{◌≡◌, ℕ, ◌≤◌, Bool, List, [], ◌∷◌, map, length, if◌then◌else◌}
+use Rattle.std.specs.Prelude.{◌≡◌, ℕ, ◌≤◌, Bool, List, [], ◌∷◌, map, length, Some, slice_get, if◌then◌else◌}
 use Prim.Native.Nat.{suc}
 use Rattle.std.specs.List.{slice_index_or}
 use Rattle.vlsi_base.specs.declared.name.Name.{Name}
 use Rattle.vlsi_base.specs.declared.name.Port.{Port}
 use Rattle.vlsi_base.specs.Names.{vdd, vss}
 use Rattle.vlsi_base.specs.Member.{In}
-use Rattle.bool_expr.specs.Expression.{Expression, val}
 use Rattle.machine_core.specs.Machine.{is_input, names_of}
 use Rattle.machine_core.specs.Named.{is_same_name}
-use Rattle.truth_tab.specs.Table.{value_of}
 use Rattle.vlsi_base.specs.declared.kind.Kind.{Kind}
 use Rattle.vlsi_base.specs.declared.kind.Kind.TheVariants as kind
 use Rattle.cell_model.specs.Cell.{Function, gate, flip_flop, other, opaque, Cell, cell_inputs, cell_outputs}
 use Rattle.cell_model.specs.Covering.{HasKind}
-use Rattle.cell_model.specs.Library.{IsUsable}
+use Rattle.cell_model.specs.Library.{Library, IsUsable}
 use Rattle.cell_pins.specs.Pins.{all_ports}
 use Rattle.cell_match.specs.declared.gate.CellWord.{CellWord}
 use Rattle.cell_match.specs.Cells.{inputs_of}
+use Rattle.gate_cells.specs.Listed.{AreGateCells}
 use Rattle.boog_map.specs.declared.part.Tie.{Tie}
 use Rattle.boog_map.specs.declared.part.Tie.TheVariants as tie
 use Rattle.boog_map.specs.declared.part.TiedPin.{TiedPin}
 use Rattle.boog_map.specs.declared.part.Part.{Part}
-use Rattle.boog_map.specs.declared.choice.GateCell.{GateCell}
 use Rattle.boog_map.specs.declared.choice.Role.{Role}
 use Rattle.boog_map.specs.declared.choice.Role.TheVariants as role
 use Rattle.boog_map.specs.declared.choice.Parts.{Parts}
@@ -70,23 +68,16 @@ pub record IsCellOf (cells : List Cell) (k : Kind) (c : Cell) : Type 0 where
   pub usable : IsUsable c
   pub kind : HasKind c k
 
--- what is known of a gate that a netlist may use: its word is the cell's function, and its part is the cell's
-pub record IsGateCell (c : Cell) (x : GateCell) : Type 0 where
-  pub usable : IsUsable c
-  pub expr : Expression
-  pub is_gate : c.function ≡ gate expr
-  pub inputs : x.word.inputs ≡ length (cell_inputs c)
-  pub value : (w : List Bool) → length w ≡ length (cell_inputs c) → value_of x.word.word.word w ≡ val expr w
-  pub is_part : IsPart c x.part
+-- a usable cell stands at this place
+pub record IsUsableAt (cells : List Cell) (place : ℕ) : Type 0 where
+  pub cell : Cell
+  pub at : slice_get cells place ≡ Some cell
+  pub usable : IsUsable cell
 
--- a netlist may not use the cell as a gate
-abbrev pub IsNoGate : Cell → Type 0
-IsNoGate c = (e : Expression) → IsUsable c → c.function ≡ gate e → ⊥
-
--- the gates are exactly those of the list that a netlist may use
-pub record AreGateCells (cells : List Cell) (gates : List GateCell) : Type 0 where
-  pub each : (x : GateCell) → In x gates → (c : Cell) × In c cells × IsGateCell c x
-  pub every : (c : Cell) (e : Expression) → In c cells → IsUsable c → c.function ≡ gate e → (x : GateCell) × In x gates × IsGateCell c x
+-- each part is that of the cell at its place
+pub record AreGateParts (cells : List Cell) (places : List ℕ) (parts : List Part) : Type 0 where
+  pub many : length parts ≡ length places
+  pub each : (k place : ℕ) (c : Cell) (p : Part) → slice_get places k ≡ Some place → slice_get cells place ≡ Some c → slice_get parts k ≡ Some p → IsPart c p
 
 -- the cell of registers; without registers an inverter stands for it
 abbrev pub register_kind : Bool → Kind
@@ -97,17 +88,18 @@ pub record IsRegisterPart (cells : List Cell) (registers : Bool) (p : Part) : Ty
   pub chosen : IsCellOf cells (register_kind registers) cell
   pub is_part : IsPart cell p
 
-pub record AreParts (cells : List Cell) (registers : Bool) (ps : Parts) : Type 0 where
-  pub gates : AreGateCells cells ps.gates.items
-  pub register : IsRegisterPart cells registers ps.register
+pub record AreParts (l : Library) (registers : Bool) (ps : Parts) : Type 0 where
+  pub cells : AreGateCells l ps.cells
+  pub gates : AreGateParts l.cells ps.cells.places.items ps.gates.items
+  pub register : IsRegisterPart l.cells registers ps.register
 
 abbrev pub part_of : Parts → Role → Part
 part_of ps role.Register = ps.register
-part_of ps (role.Gate k) = slice_index_or (map (λ x. x.part) ps.gates.items) k ps.register
+part_of ps (role.Gate k) = slice_index_or ps.gates.items k ps.register
 
 -- the words of the gates, by their numbers
 abbrev pub gate_words : Parts → List CellWord
-gate_words ps = map (λ x. x.word) ps.gates.items
+gate_words ps = ps.cells.words.items
 
 abbrev pub HaveFewInputs : List CellWord → Type 0
 HaveFewInputs cells = (k : ℕ) → inputs_of cells k ≤ 6

@@ -1,33 +1,19 @@
 // The cells of a library that a netlist is made of.
-ghost use Rattle.std.specs.Prelude.{◌≡◌, ◌↔◌, ◌∷◌, [], Bool, List, map, length, slice_index_or, IsTrue, IfOk, IfSome, IfNone, All, if◌then◌else◌};
-ghost use Rattle.std.specs.Option.{option_copied};
+ghost use Rattle.std.specs.Prelude.{◌≡◌, ◌↔◌, length, IsTrue, IfOk, All, if◌then◌else◌};
 ghost use Rattle.vlsi_base.specs.Member.{In};
-ghost use Rattle.bool_expr.specs.Expression.{Expression};
 ghost use Rattle.vlsi_base.specs.declared.kind.Kind.{Kind};
-ghost use Rattle.cell_model.specs.Function.{gate};
-ghost use Rattle.cell_model.specs.Cell.{cell_inputs};
 ghost use Rattle.cell_model.specs.Covering.{HasKind, HasCellOf, needed};
 ghost use Rattle.cell_model.specs.Library.{IsUsable};
 ghost use Rattle.cell_model.specs.Usable.{IsFormed};
 ghost use Rattle.cell_model.specs.Connectors.{PinsAreConnectors};
-ghost use Rattle.cell_word.specs.Words.{input_count};
-ghost use Rattle.boog_map.specs.Tied.{part_of, IsCellOf, IsGateCell, IsNoGate, AreGateCells, IsRegisterPart, AreParts};
+ghost use Rattle.cell_checks.specs.Checked.{library_of};
+ghost use Rattle.gate_cells.specs.Listed.{AreGateCells};
+ghost use Rattle.boog_map.specs.Tied.{part_of, IsCellOf, IsUsableAt, IsRegisterPart, AreGateParts, AreParts};
 
 use crate::part::{Part, part_of_cell};
-use cell_match::CellWord;
-use cell_model::{Cell, Kind, Pin, kind_of, usable};
-use cell_word::word_of;
+use cell_model::{Cell, Kind, kind_of, usable};
+use gate_cells::GateCells;
 use std::alloc::{AllocError, Global};
-use sym_geom::{PITCH, Rect};
-use vlsi_base::Dir;
-
-/// A gate that a netlist may use: its word, its width in columns, and its part of a netlist.
-#[derive(Drop)]
-pub(crate) struct GateCell {
-    pub(crate) word: CellWord,
-    pub(crate) columns: u32,
-    pub(crate) part: Part,
-}
 
 /// Which cell an instance has: that of registers, or the gate of this number.
 #[derive(Clone, Copy)]
@@ -36,10 +22,11 @@ pub(crate) enum Role {
     Gate(usize),
 }
 
-/// The cells that a netlist is made of: gates by rising width, and the cell of registers.
+/// The cells that a netlist is made of: gates by rising width with their parts, and the cell of registers.
 #[derive(Drop)]
 pub(crate) struct Parts {
-    pub(crate) gates: Vec<GateCell>,
+    pub(crate) cells: GateCells,
+    pub(crate) gates: Vec<Part>,
     pub(crate) register: Part,
 }
 
@@ -51,73 +38,23 @@ impl Parts {
         match role {
             Role::Register => &self.register,
             Role::Gate(number) => match self.gates.get(number) {
-                Some(gate) => &gate.part,
+                Some(part) => part,
                 None => &self.register,
             },
         }
     }
 }
 
-/// How many columns a box is wide.
-fn columns_of(bounds: Rect) -> u32 {
-    let columns = bounds.x2.abs_diff(bounds.x1) / u64::from(PITCH);
-    columns.min(u64::from(u32::MAX)) as u32
-}
-
-fn count_inputs(pins: &[Pin]) -> usize
-    ensures { result ≡ input_count pins.now }
+/// The cells at these places as a netlist uses them. Takes memory for the names of their pins.
+fn parts_at(alloc: Global, cells: &[Cell], places: &[usize]) -> Result<Vec<Part>, AllocError>
+    requires { All (IsUsableAt cells.now) places.now }
+    ensures { IfOk result (λ parts. AreGateParts cells.now places.now parts.items) }
 {
-    pins.iter().filter(|pin| pin.port.dir == Dir::In).count()
-}
-
-/// A cell that a netlist may use as a gate; None where it may not. Takes memory for the names of its pins.
-fn gate_cell(alloc: Global, cell: &Cell) -> Result<Option<GateCell>, AllocError>
-    requires formed { IsFormed cell.now }
-    requires connectors { PinsAreConnectors cell.now }
-    ensures some { IfOk result (λ x. IfSome x (IsGateCell cell.now)) }
-    ensures none { IfOk result (λ x. IfNone x (IsNoGate cell.now)) }
-{
-    if !usable(cell) {
-        return Ok(None);
+    let mut parts = Vec::new(alloc);
+    for place in places {
+        parts.push(part_of_cell(alloc, &cells[*place])?)?;
     }
-    match word_of(cell) {
-        Some(word) => Ok(Some(GateCell {
-            word: CellWord {
-                inputs: count_inputs(cell.pins.as_slice()) as u8,
-                word,
-            },
-            columns: columns_of(cell.bounds),
-            part: part_of_cell(alloc, cell)?,
-        })),
-        None => Ok(None),
-    }
-}
-
-/// The gates that a netlist may use, in the order of the list. Takes memory for the names of their pins.
-fn listed_gates(alloc: Global, cells: &[Cell]) -> Result<Vec<GateCell>, AllocError>
-    requires formed { All IsFormed cells.now }
-    requires connectors { All PinsAreConnectors cells.now }
-    ensures { IfOk result (λ gates. AreGateCells cells.now gates.items) }
-{
-    let mut gates = Vec::new(alloc);
-    for cell in cells {
-        if let Some(gate) = gate_cell(alloc, cell)? {
-            gates.push(gate)?;
-        }
-    }
-    Ok(gates)
-}
-
-/// The gates that a netlist may use by rising width, and those of one width in the order of the list. Takes memory for the names
-/// of their pins.
-fn gate_cells(alloc: Global, cells: &[Cell]) -> Result<Vec<GateCell>, AllocError>
-    requires formed { All IsFormed cells.now }
-    requires connectors { All PinsAreConnectors cells.now }
-    ensures { IfOk result (λ gates. AreGateCells cells.now gates.items) }
-{
-    let mut gates = listed_gates(alloc, cells)?;
-    gates.sort_by_key(|gate| gate.columns)?;
-    Ok(gates)
+    Ok(parts)
 }
 
 /// Whether a netlist may use the cell, and it has the kind.
@@ -157,20 +94,24 @@ fn register_part(alloc: Global, cells: &[Cell], registers: bool) -> Result<Part,
     part_of_cell(alloc, chosen(cells, kind))
 }
 
-/// The gates of a list that a netlist may use, and its first flip-flop where there are registers. Takes memory for the names of
+/// The gates of a library as a netlist uses them, and its first flip-flop where there are registers. Takes memory for the names of
 /// their pins.
 pub(crate) fn chosen_parts(
     alloc: Global,
     cells: &[Cell],
+    gates: GateCells,
     registers: bool,
 ) -> Result<Parts, AllocError>
     requires formed { All IsFormed cells.now }
     requires connectors { All PinsAreConnectors cells.now }
     requires there { (k : Kind) → In k (needed registers) → HasCellOf cells.now k }
-    ensures { IfOk result (λ ps. AreParts cells.now registers ps) }
+    requires gates { AreGateCells (library_of cells.now) gates }
+    ensures { IfOk result (λ ps. AreParts (library_of cells.now) registers ps) }
 {
+    let parts = parts_at(alloc, cells, &gates.places)?;
     Ok(Parts {
-        gates: gate_cells(alloc, cells)?,
+        cells: gates,
+        gates: parts,
         register: register_part(alloc, cells, registers)?,
     })
 }

@@ -1,5 +1,5 @@
 // The gates that stand for the nodes of a graph.
-ghost use Rattle.std.specs.Prelude.{◌≡◌, ◌++◌, map, IfOk};
+ghost use Rattle.std.specs.Prelude.{◌≡◌, IfOk};
 ghost use Rattle.graph_theory.specs.Graph.{held_count};
 ghost use Rattle.subject_graph.specs.Subject.{IsSubjectGraph};
 ghost use Rattle.boog_cover.specs.Covered.{HasCells, IsCovered};
@@ -7,31 +7,13 @@ ghost use Rattle.boog_map.specs.Netlist.{HasRoomForCells};
 ghost use Rattle.boog_map.specs.Tied.{gate_words, HaveFewInputs};
 ghost use Rattle.boog_map.specs.Mapped.{root_numbers};
 
-use crate::choice::{GateCell, Parts};
+use crate::choice::Parts;
 use crate::count::held_count;
 use boog_cover::cover;
-use cell_match::{CellWord, Gate};
+use cell_match::Gate;
 use machine_core::Machine;
 use std::alloc::{AllocError, Global};
 use subject_graph::Graph;
-
-fn words_of(alloc: Global, gates: &[GateCell]) -> Result<Vec<CellWord>, AllocError>
-    ensures { IfOk result (λ words. words.items ≡ map (λ x. x.word) gates.now) }
-{
-    let mut words = Vec::new(alloc);
-    for gate in gates {
-        words.push(gate.word)?;
-    }
-    Ok(words)
-}
-
-fn columns_of(alloc: Global, gates: &[GateCell]) -> Result<Vec<u32>, AllocError> {
-    let mut columns = Vec::new(alloc);
-    for gate in gates {
-        columns.push(gate.columns)?;
-    }
-    Ok(columns)
-}
 
 /// What outputs show and registers load.
 fn root_numbers(alloc: Global, graph: &Graph) -> Result<Vec<u32>, AllocError>
@@ -57,8 +39,8 @@ pub(crate) fn covering(
     ensures { IfOk result (λ gates.
         IsCovered (gate_words parts.now) (held_count machine.now) graph.now.nodes (root_numbers graph.now) gates.items) }
 {
-    let words = words_of(alloc, &parts.gates)?;
-    let columns = columns_of(alloc, &parts.gates)?;
+    let words = parts.cells.words.as_slice();
+    let areas = parts.cells.areas.as_slice();
     let roots = root_numbers(alloc, graph)?;
-    cover(alloc, &words, &columns, held_count(machine), graph, &roots)
+    cover(alloc, words, areas, held_count(machine), graph, &roots)
 }

@@ -21,6 +21,7 @@ use cell_checks::Library;
 use cell_match::Gate;
 use cell_model::first_missing;
 use cell_pins::with_supplies;
+use gate_cells::gate_cells;
 use machine_core::Machine;
 use net_core::Netlist;
 use std::alloc::{AllocError, Global};
@@ -88,7 +89,8 @@ pub fn map_covered(
     requires covered { Covers library.now machine.now }
     ensures { IfOk result (λ n. IsMapped n library.now machine.now graph.now) }
 {
-    let parts = chosen_parts(alloc, library.cells(), has_registers(machine))?;
+    let cells = gate_cells(alloc, library)?;
+    let parts = chosen_parts(alloc, library.cells(), cells, has_registers(machine))?;
     let gates = covering(alloc, machine, graph, &parts)?;
     let sketch = sketched(alloc, machine, graph, parts, &gates)?;
     let name = machine.name().copy(alloc)?;

@@ -6,6 +6,8 @@ use Rattle.cell_model.specs.Usable.{IsFormed}
 use Rattle.cell_model.specs.Connectors.{PinsAreConnectors}
 use Rattle.cell_model.specs.Covering.{HasCellOf, needed}
 use Rattle.cell_model.specs.Cell.{Cell}
+use Rattle.cell_model.specs.Library.{Library}
+use Rattle.gate_cells.specs.Listed.{AreGateCells}
 use Rattle.cell_match.specs.declared.gate.Gate.{Gate}
 use Rattle.cell_pins.specs.Pins.{with_supply}
 use Rattle.cell_pins.proofs.Sound.{connected}
@@ -29,6 +31,10 @@ pub chosen_parts-requires-clause-there : goal.chosen_parts-requires-clause-there
 chosen_parts-requires-clause-there c k h =
     of_library c.cells.result.now c.args.library.now c.cells.ensures.value (λ (cs : List Cell). HasCellOf cs k)
     (c.requires.covered k (subst (λ (b : Bool). In k (needed b)) c.has_registers.ensures h))
+
+pub chosen_parts-requires-clause-gates : goal.chosen_parts-requires-clause-gates
+chosen_parts-requires-clause-gates c =
+    subst (λ (l : Library). AreGateCells l c.in_ok-cells.cells) (sym c.cells.ensures.value) c.in_ok-cells.ensures
 
 pub covering-requires-clause-inputs : goal.covering-requires-clause-inputs
 covering-requires-clause-inputs c =
