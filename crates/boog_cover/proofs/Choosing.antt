@@ -19,8 +19,8 @@ module _ {K : ℕ} (cells : List CellWord) (cuts : List (Cut K)) (i : ℕ) (cut 
   at_suc : IsNumber cuts (suc (i - 1)) cut
   at_suc = let e : i ≡ suc (i - 1) = omega arith in subst (λ (n : ℕ). IsNumber cuts n cut) e at
 
-  pub chosen_new : (g : Gate) → ComputesCut cells g.cell g.leaves.items cut → Choosing cells cuts (i + 1) (Some g)
-  chosen_new g does = record { some = record { number = i - 1; cut = cut; listed = at_suc; computes = does }; none = tt }
+  pub chosen_new : (g : Gate) → ComputesCut cells g.cell g.leaves.items cut → length g.leaves.items ≤ K → Choosing cells cuts (i + 1) (Some g)
+  chosen_new g does few = record { some = record { number = i - 1; cut = cut; listed = at_suc; computes = does; few = few }; none = tt }
 
   pub chosen_kept : (o : Option Gate) → is_some o ≡ true → Choosing cells cuts i o → Choosing cells cuts (i + 1) o
   chosen_kept None e is = cc

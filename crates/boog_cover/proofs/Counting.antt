@@ -4,6 +4,7 @@ use Prim.Native.Nat.{zero, suc}
 use Rattle.cell_match.specs.declared.gate.Gate.{Gate}
 use Rattle.cell_match.specs.Places.{times}
 use Rattle.boog_tight.specs.Cover.{leaves_of, gate_at, used}
+use Rattle.boog_tight.specs.Kept.{leaf_count}
 use Rattle.cell_match.proofs.Numbers.{one_tells}
 
 pub used_more : (x : ℕ) (gates : List (Option Gate)) (i : ℕ) → i < length gates
@@ -13,6 +14,20 @@ used_more x gates i h = ap (λ (n : ℕ). used x (take n gates)) (let e : i + 1 
   go [] i h = absurd (omega arith)
   go (g ∷ gates) zero h = omega arith
   go (g ∷ gates) (suc i) h = let e = go gates i (omega arith) in omega arith
+
+pub pins_more : (gates : List (Option Gate)) (i : ℕ) → i < length gates
+    → leaf_count (take (i + 1) gates) ≡ leaf_count (take i gates) + length (leaves_of (gate_at gates i))
+pins_more gates i h = ap (λ (n : ℕ). leaf_count (take n gates)) (let e : i + 1 ≡ suc i = omega arith in e) ∙ go gates i h where
+  go : (gates : List (Option Gate)) (i : ℕ) → i < length gates → leaf_count (take (suc i) gates) ≡ leaf_count (take i gates) + length (leaves_of (gate_at gates i))
+  go [] i h = absurd (omega arith)
+  go (g ∷ gates) zero h = omega arith
+  go (g ∷ gates) (suc i) h = let e = go gates i (omega arith) in omega arith
+
+pub pins_whole : (gates : List (Option Gate)) (i : ℕ) → length gates ≤ i → leaf_count (take i gates) ≡ leaf_count gates
+pins_whole [] zero h = refl
+pins_whole [] (suc i) h = refl
+pins_whole (g ∷ gates) zero h = absurd (omega arith)
+pins_whole (g ∷ gates) (suc i) h = let e = pins_whole gates i (omega arith) in omega arith
 
 pub used_part : (x : ℕ) (gates : List (Option Gate)) (i : ℕ) → used x (take i gates) ≤ used x gates
 used_part x [] zero = omega arith
@@ -38,13 +53,17 @@ times_few x (y ∷ xs) = let e = times_few x xs in elim (one_tells y x) [
 ]
 
 -- a gate that is read at its place
+pub gate_got : (gates : List (Option Gate)) (i : ℕ) (o : Option Gate) → i < length gates → gate_at gates i ≡ get_or gates i o
+gate_got [] i o h = absurd (omega arith)
+gate_got (g ∷ gates) zero o h = refl
+gate_got (g ∷ gates) (suc i) o h = gate_got gates i o (omega arith)
+
+pub gate_there_at : (gates : List (Option Gate)) (i : ℕ) (o : Option Gate) → i < length gates → o ≡ get_or gates i o → gate_at gates i ≡ o
+gate_there_at gates i o h e = gate_got gates i o h ∙ sym e
+
 pub leaves_read : (x : ℕ) (gates : List (Option Gate)) (i : ℕ) (o : Option Gate) → i < length gates → o ≡ get_or gates i o
     → times x (leaves_of (gate_at gates i)) ≡ times x (leaves_of o)
-leaves_read x gates i o h e = ap (λ (g : Option Gate). times x (leaves_of g)) (go gates i h ∙ sym e) where
-  go : (gates : List (Option Gate)) (i : ℕ) → i < length gates → gate_at gates i ≡ get_or gates i o
-  go [] i h = absurd (omega arith)
-  go (g ∷ gates) zero h = refl
-  go (g ∷ gates) (suc i) h = go gates i (omega arith)
+leaves_read x gates i o h e = ap (λ (g : Option Gate). times x (leaves_of g)) (gate_there_at gates i o h e)
 
 pub written : {A : Type 0} (new items : List A) (n : ℕ) → length new ≡ n → take n (new ++ drop (length new) items) ≡ new
 written {A} new items n h = subst (λ (k : ℕ). take k (new ++ drop (length new) items) ≡ new) h (go new (drop (length new) items)) where

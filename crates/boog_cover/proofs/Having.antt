@@ -1,6 +1,7 @@
 -- Each node has a gate.
-use Rattle.std.proofs.Common.{◌≡◌, inl, inr, ℕ, ◌+◌, ◌<◌, ◌≤◌, Bool, not, ◌&&◌, true, false, List, [], ◌∷◌, length, Option, None, Some, ap, refl, sym, subst, ◌∙◌, arith}
+use Rattle.std.proofs.Common.{◌≡◌, inl, inr, ℕ, ◌+◌, ◌*◌, ◌<◌, ◌≤◌, Bool, not, ◌&&◌, true, false, List, [], ◌∷◌, length, Option, None, Some, ap, refl, sym, subst, ◌∙◌, arith}
 use Prim.Native.Nat.{zero, suc}
+use Rattle.std.proofs.Math.Nat.{mul-suc}
 use Rattle.std.proofs.lemmas.Bool.{cases_eq, cases_lt}
 use Rattle.net_theory.specs.Sources.{IsNumber}
 use Rattle.net_theory.proofs.Basics.{at_number}
@@ -8,17 +9,20 @@ use Rattle.graph_theory.specs.Graph.{Node, fixed, inv, nand}
 use Rattle.cell_match.specs.declared.gate.CellWord.{CellWord}
 use Rattle.cell_match.specs.declared.gate.Gate.{Gate}
 use Rattle.cell_match.specs.Places.{times}
-use Rattle.boog_tight.specs.Cover.{leaves_of, gate_at, IsCover, AreTrue, uses}
+use Rattle.boog_tight.specs.Cover.{leaves_of, gate_at, IsCover, AreTrue, used, uses}
 use Rattle.cell_match.proofs.Numbers.{one_tells}
 use Rattle.cell_match.specs.declared.cut.Cut.{Cut}
-use Rattle.boog_tight.specs.Kept.{Keeps}
+use Rattle.boog_tight.specs.Kept.{leaf_count, ReadsThrough, pin, through, EachIsUsed, Keeps}
 use Rattle.boog_tight.specs.Tight.{IsTight}
 use Rattle.boog_tight.proofs.Counting.{gate_there}
 use Rattle.cell_match.specs.Computes.{cut_value, ComputesCut}
+use Rattle.boog_cuts.specs.Reads.{Reaches, itself, step}
 use Rattle.boog_cuts.specs.Cuts.{AreValues, node_value, AreInputs, IsCutTable}
+use Rattle.boog_cuts.proofs.Whole.{reached_through}
 use Rattle.boog_cover.specs.Choices.{StandsAt, AreChosen}
 use Rattle.boog_cover.specs.Pruned.{IsFull, IsPruned}
-use Rattle.boog_cover.specs.Covered.{HasCells, IsCovered}
+use Rattle.boog_cover.specs.Covered.{HasCells, IsNeeded, root, read, IsCoveredWith}
+use Rattle.boog_cover.proofs.Pruning.{used_by}
 
 same_and : (x : Bool) → (x && x) ≡ x
 same_and true = refl
@@ -140,6 +144,72 @@ module _ {K : ℕ} (cells : List CellWord) (has : HasCells cells) where
     low a x None e some = absurd (omega arith)
     low a x (Some g) e some = (chosen.stands a g e).is_gate.earlier x some
 
+-- pins of gates of k at most, of which none shows an input or a register
+pins_few : (k held n : ℕ) (gates : List (Option Gate)) → length gates ≡ held + n → ((a : ℕ) → a < held → gate_at gates a ≡ None)
+    → ((a : ℕ) (g : Gate) → gate_at gates a ≡ Some g → length g.leaves.items ≤ k) → leaf_count gates ≤ k * n
+pins_few k held n [] long given few = omega arith
+pins_few k (suc held) n (o ∷ gates) long given few =
+    let rest = pins_few k held n gates (omega arith) (λ a low. given (suc a) (omega arith)) (λ a g e. few (suc a) g e) in
+    let none = ap (λ (p : Option Gate). length (leaves_of p)) (given 0 (omega arith)) in
+    omega arith
+pins_few k zero zero (o ∷ gates) long given few = absurd (omega arith)
+pins_few k zero (suc n) (o ∷ gates) long given few =
+    let rest = pins_few k zero n gates (omega arith) (λ a low. absurd (omega arith)) (λ a g e. few (suc a) g e) in
+    let one = at_most o (few 0) in
+    let more = mul-suc k n in
+    omega arith where
+      at_most : (p : Option Gate) → ((g : Gate) → p ≡ Some g → length g.leaves.items ≤ k) → length (leaves_of p) ≤ k
+      at_most None h = omega arith
+      at_most (Some g) h = h g refl
+
+-- what is reached from what is needed is needed
+needed_through : (held : ℕ) (nodes : List Node) (roots : List ℕ) (b x : ℕ) → IsNeeded held nodes roots b → Reaches held nodes b x → IsNeeded held nodes roots x
+needed_through held nodes roots b x needed itself = needed
+needed_through held nodes roots b x needed (step j kind r at is) = read j kind (needed_through held nodes roots b (held + j) needed r) at is
+
+module _ (held : ℕ) (nodes : List Node) (roots : List ℕ) (gates : List (Option Gate))
+    (reaches : (b x : ℕ) → 0 < times x (leaves_of (gate_at gates b)) → Reaches held nodes b x)
+    (earlier : (b x : ℕ) (g : Gate) → gate_at gates b ≡ Some g → 0 < times x g.leaves.items → x < b) (used_each : EachIsUsed gates roots) where
+  reader : (a : ℕ) → 0 < used a gates → (b : ℕ) × (g : Gate) × (gate_at gates b ≡ Some g) × (0 < times a (leaves_of (gate_at gates b)))
+  reader a some = let by = used_by a gates some in there by.0 (gate_at gates by.0) refl by.1 where
+    there : (b : ℕ) (o : Option Gate) → gate_at gates b ≡ o → 0 < times a (leaves_of (gate_at gates b))
+        → (b : ℕ) × (g : Gate) × (gate_at gates b ≡ Some g) × (0 < times a (leaves_of (gate_at gates b)))
+    there b None e h = let f = ap (λ (o : Option Gate). times a (leaves_of o)) e in absurd (omega arith)
+    there b (Some g) e h = (b, g, e, h)
+
+  low_reader : (a b : ℕ) (g : Gate) → gate_at gates b ≡ Some g → 0 < times a (leaves_of (gate_at gates b)) → a < b
+  low_reader a b g e h = earlier b a g e (subst (λ (o : Option Gate). 0 < times a (leaves_of o)) e h)
+
+  -- what is read is needed, from the last number on
+  all_needed : (n a : ℕ) → length gates ≤ a + n → 0 < uses gates roots a → IsNeeded held nodes roots a
+  all_needed zero a most some = elim (cases_lt 0 (times a roots)) [
+    | inl by_root ↦ root by_root
+    | inr none ↦
+        let by = reader a (omega arith) in
+        let low = low_reader a by.0 by.1 by.2 by.3 in let inside = gate_there gates by.0 by.1 by.2 in absurd (omega arith)
+  ]
+  all_needed (suc n) a most some = elim (cases_lt 0 (times a roots)) [
+    | inl by_root ↦ root by_root
+    | inr none ↦
+        let by = reader a (omega arith) in
+        let low = low_reader a by.0 by.1 by.2 by.3 in
+        needed_through held nodes roots by.0 a (all_needed n by.0 (omega arith) (used_each by.0 by.1 by.2)) (reaches by.0 a by.3)
+  ]
+
+-- with fewer pins
+pub with_fewer : (k m : ℕ) (cells : List CellWord) (held : ℕ) (nodes : List Node) (roots : List ℕ) (gates : List (Option Gate))
+    → IsCoveredWith k cells held nodes roots gates → leaf_count gates ≤ m * length nodes → IsCoveredWith m cells held nodes roots gates
+with_fewer k m cells held nodes roots gates is few = record {
+  long = is.long;
+  given = is.given;
+  cover = is.cover;
+  value = is.value;
+  tight = is.tight;
+  needed = is.needed;
+  below = is.below;
+  few = few;
+}
+
 -- what is left covers the graph
 module _ (cells : List CellWord) (held : ℕ) (nodes : List Node) (first second : List (Option Gate)) (roots : List ℕ)
     (stands : (a : ℕ) (g : Gate) → gate_at first a ≡ Some g → StandsAt cells held nodes a g) (pruned : IsPruned held first second roots) where
@@ -170,9 +240,26 @@ module _ (cells : List CellWord) (held : ℕ) (nodes : List Node) (first second 
     | inr none ↦ none
   ]
 
-  pub covers : (last : List (Option Gate)) → length second ≡ held + length nodes → ((a : ℕ) → a < held → gate_at first a ≡ None)
-      → Keeps cells held roots second last → IsTight cells last roots → IsCovered cells held nodes roots last
-  covers last long given keeps tight = record {
+  pins_second : (k : ℕ) → length second ≡ held + length nodes → ((a : ℕ) → a < held → gate_at first a ≡ None)
+      → ((a : ℕ) (g : Gate) → gate_at first a ≡ Some g → length g.leaves.items ≤ k) → leaf_count second ≤ k * length nodes
+  pins_second k long given few = pins_few k held (length nodes) second long (pruned_given given) (λ a g e. few a g (before a g e))
+
+  pin_reached : (a x : ℕ) (o : Option Gate) → gate_at second a ≡ o → 0 < times x (leaves_of o) → Reaches held nodes a x
+  pin_reached a x None e some = absurd (omega arith)
+  pin_reached a x (Some g) e some = (stands a g (before a g e)).reached x some
+
+  read_reached : (a x : ℕ) → ReadsThrough second a x → Reaches held nodes a x
+  read_reached a x (pin h) = pin_reached a x (gate_at second a) refl h
+  read_reached a x (through {b = b} s t) = reached_through held nodes a b x (read_reached a b s) (read_reached b x t)
+
+  pub covers : (k : ℕ) (last : List (Option Gate)) → length second ≡ held + length nodes → ((a : ℕ) → a < held → gate_at first a ≡ None)
+      → ((a : ℕ) (g : Gate) → gate_at first a ≡ Some g → length g.leaves.items ≤ k)
+      → Keeps cells held roots second last → IsTight cells last roots → IsCoveredWith k cells held nodes roots last
+  covers k last long given few keeps tight = record {
+    needed = keeps.needed pruned.needed;
+    below = λ a some. all_needed held nodes roots last (λ b x h. read_reached b x (keeps.read b x h))
+        (λ b x g e. (keeps.cover.gate b g e).earlier x) (keeps.needed pruned.needed) (length last) a (omega arith) some;
+    few = let p = keeps.pins in let q = pins_second k long given few in omega arith;
     long = keeps.long ∙ long;
     given = λ a low. keeps.fewer a (pruned_given given a low);
     cover = keeps.cover;

@@ -1,12 +1,12 @@
 -- Gates taken out from the last on.
-use Rattle.std.proofs.Common.{◌≡◌, ◌≢◌, ◌⊎◌, ◌↔◌, inl, inr, ℕ, ◌+◌, ◌<◌, ◌≤◌, Bool, true, false, List, [], ◌∷◌, length, take, set, get_or, Option, None, ap, refl, sym, subst, ◌∙◌, arith, get_or-set_same, get_or-set_other, length-set}
+use Rattle.std.proofs.Common.{◌≡◌, ◌≢◌, ◌⊎◌, ◌↔◌, inl, inr, ℕ, ◌+◌, ◌<◌, ◌≤◌, Bool, true, false, List, [], ◌∷◌, length, take, set, get_or, Option, None, Some, ap, refl, sym, subst, ◌∙◌, arith, get_or-set_same, get_or-set_other, length-set}
 use Prim.Native.Nat.{zero, suc}
 use Rattle.std.proofs.lemmas.Bool.{cases_lt, cases_eq}
 use Rattle.cell_match.specs.declared.gate.Gate.{Gate}
 use Rattle.cell_match.specs.Places.{times}
 use Rattle.boog_tight.specs.Cover.{gate_at, leaves_of, used}
 use Rattle.cell_match.proofs.Numbers.{one_tells, times_more}
-use Rattle.boog_tight.proofs.Counting.{gate_same, gate_other}
+use Rattle.boog_tight.proofs.Counting.{gate_same, gate_other, gate_there, used_at}
 use Rattle.boog_cover.specs.Pruned.{IsMarked, IsFull, IsPruned}
 
 pub marked_below : (marks : List Bool) (x : ℕ) → IsMarked marks x → x < length marks
@@ -42,12 +42,18 @@ marked_more old marks numbers i low inside before x =
     ]
 
 -- what reads a node that is used
-used_by : (x : ℕ) (gates : List (Option Gate)) → 0 < used x gates → (b : ℕ) × (0 < times x (leaves_of (gate_at gates b)))
+pub used_by : (x : ℕ) (gates : List (Option Gate)) → 0 < used x gates → (b : ℕ) × (0 < times x (leaves_of (gate_at gates b)))
 used_by x [] h = absurd (omega arith)
 used_by x (g ∷ gates) h = elim (cases_lt 0 (times x (leaves_of g))) [
   | inl here ↦ (0, here)
   | inr none ↦ let rest = used_by x gates (omega arith) in (suc rest.0, rest.1)
 ]
+
+-- a gate from number n on reads x
+pub record IsReadFrom (gates : List (Option Gate)) (n x : ℕ) : Type 0 where
+  pub reader : ℕ
+  pub high : n ≤ reader
+  pub reads : 0 < times x (leaves_of (gate_at gates reader))
 
 -- what the loop keeps
 pub record Pruning (held : ℕ) (old gates : List (Option Gate)) (marks : List Bool) (roots : List ℕ) (rest : ℕ) : Type 0 where
@@ -59,6 +65,8 @@ pub record Pruning (held : ℕ) (old gates : List (Option Gate)) (marks : List B
   pub alive : (b : ℕ) → IsMarked marks b → gate_at gates b ≡ gate_at old b
   pub read : (b x : ℕ) → rest ≤ b → 0 < times x (leaves_of (gate_at gates b)) → IsMarked marks x
   pub rooted : (x : ℕ) → 0 < times x roots → IsMarked marks x
+  pub why : (b : ℕ) → IsMarked marks b → (0 < times b roots) ⊎ IsReadFrom gates rest b
+  pub kept : (b : ℕ) (g : Gate) → rest ≤ b → gate_at gates b ≡ Some g → IsMarked marks b
 
 low_leaf : (held : ℕ) (old gates : List (Option Gate)) (b x : ℕ) → IsFull held old → (gate_at gates b ≡ gate_at old b) ⊎ (gate_at gates b ≡ None)
     → 0 < times x (leaves_of (gate_at gates b)) → x < b
@@ -68,8 +76,9 @@ low_leaf held old gates b x full of h = elim of [
 ]
 
 pub pruning_start : (held : ℕ) (old : List (Option Gate)) (marks : List Bool) (roots : List ℕ) (rest : ℕ) → rest ≡ length old → length marks ≡ length old
-    → IsFull held old → ((x : ℕ) → 0 < times x roots → IsMarked marks x) → Pruning held old old marks roots rest
-pruning_start held old marks roots rest is long full rooted = record {
+    → IsFull held old → ((x : ℕ) → 0 < times x roots → IsMarked marks x) → ((x : ℕ) → IsMarked marks x → 0 < times x roots)
+    → Pruning held old old marks roots rest
+pruning_start held old marks roots rest is long full rooted only = record {
   most = omega arith;
   long = refl;
   marks_long = long;
@@ -78,6 +87,8 @@ pruning_start held old marks roots rest is long full rooted = record {
   alive = λ b h. refl;
   read = λ b x low h. past old b x (omega arith) h;
   rooted = rooted;
+  why = λ b h. inl (only b h);
+  kept = λ b g low e. let t = gate_there old b g e in absurd (omega arith);
 } where
   past : (gates : List (Option Gate)) (b x : ℕ) → length gates ≤ b → 0 < times x (leaves_of (gate_at gates b)) → IsMarked marks x
   past [] b x low h = absurd (omega arith)
@@ -104,6 +115,17 @@ module _ (held : ℕ) (old gates : List (Option Gate)) (marks : List Bool) (root
       | inr other ↦ (more x).1 (inl (is.read b x (omega arith) h))
     ];
     rooted = λ x h. (more x).1 (inl (is.rooted x h));
+    why = λ b h. elim ((more b).0 h) [
+      | inl was ↦ elim (is.why b was) [
+        | inl root ↦ inl root
+        | inr by ↦ inr record { reader = by.reader; high = (let e = by.high in omega arith); reads = by.reads }
+      ]
+      | inr by ↦ inr record { reader = a; high = omega arith; reads = by }
+    ];
+    kept = λ b g low e. elim (cases_eq b a) [
+      | inl here ↦ (more b).1 (inl (subst (λ (n : ℕ). IsMarked marks n) (sym here) marked))
+      | inr other ↦ (more b).1 (inl (is.kept b g (omega arith) e))
+    ];
   }
 
   pub pruning_out : (IsMarked marks a → ⊥) → Pruning held old (set gates a None) marks roots a
@@ -134,6 +156,23 @@ module _ (held : ℕ) (old gates : List (Option Gate)) (marks : List Bool) (root
           | inr other ↦ is.read b x (omega arith) (subst (λ (o : Option Gate). 0 < times x (leaves_of o)) (gate_other gates a b None other) h)
         ];
         rooted = is.rooted;
+        why = λ b h. elim (is.why b h) [
+          | inl root ↦ inl root
+          | inr by ↦
+              let high = by.high in
+              let apart : by.reader ≢ a = omega arith in
+              inr record {
+                reader = by.reader;
+                high = omega arith;
+                reads = subst (λ (o : Option Gate). 0 < times b (leaves_of o)) (sym (gate_other gates a by.reader None apart)) by.reads;
+              }
+        ];
+        kept = λ b g low e. elim (cases_eq b a) [
+          | inl here ↦
+              let none = subst (λ (n : ℕ). gate_at (set gates a None) n ≡ None) (sym here) (gate_same gates a None there) in
+              let f : None ≡ Some g = sym none ∙ e in cc
+          | inr other ↦ is.kept b g (omega arith) (sym (gate_other gates a b None other) ∙ e)
+        ];
       }
 
 pub pruned_whole : (held : ℕ) (old gates : List (Option Gate)) (marks : List Bool) (roots : List ℕ) (rest : ℕ) → IsFull held old
@@ -141,6 +180,19 @@ pub pruned_whole : (held : ℕ) (old gates : List (Option Gate)) (marks : List B
 pruned_whole held old gates marks roots rest full is low = record {
   long = is.long;
   of = is.of;
+  needed = λ b g e. elim (cases_lt b held) [
+    | inl given ↦
+        let none_old = full.given b given in
+        let none : gate_at gates b ≡ None = elim (is.of b) [
+          | inl same ↦ same ∙ none_old
+          | inr none_now ↦ none_now
+        ] in
+        let f : None ≡ Some g = sym none ∙ e in cc
+    | inr above ↦ elim (is.why b (is.kept b g (omega arith) e)) [
+      | inl root ↦ omega arith
+      | inr by ↦ let u = used_at b gates by.reader in let r = by.reads in omega arith
+    ]
+  ];
   closed = λ x h.
       let marked : IsMarked marks x = elim (cases_lt 0 (times x roots)) [
         | inl root ↦ is.rooted x root

@@ -22,6 +22,7 @@ stands_of_cut cells held nodes lists a cuts g table at of = record {
     earlier = λ x some. (table.cuts a cuts at).earlier of.number of.cut of.listed x ((of.computes.members x).0 some);
   };
   value = λ f values. sym (table.value f values a cuts at (suc of.number) of.cut of.listed) ∙ sym (of.computes.value f);
+  reached = λ x some. table.reached a cuts at (suc of.number) of.cut x of.listed ((of.computes.members x).0 some);
 }
 
 -- the gate at the end, and those before it
@@ -52,6 +53,7 @@ pub record Chosen {K : ℕ} (cells : List CellWord) (held : ℕ) (nodes : List N
   pub many : length gates ≡ n
   pub given : (a : ℕ) → a < held → gate_at gates a ≡ None
   pub stands : (a : ℕ) (g : Gate) → gate_at gates a ≡ Some g → StandsAt cells held nodes a g
+  pub few : (a : ℕ) (g : Gate) → gate_at gates a ≡ Some g → length g.leaves.items ≤ K
   pub missing : (a : ℕ) (list : List (Cut K)) → held ≤ a → a < n → IsNumber lists a list → gate_at gates a ≡ None → NoneOfCuts cells list
 
 module _ {K : ℕ} (cells : List CellWord) (held : ℕ) (nodes : List Node) (lists : List (List (Cut K))) where
@@ -60,14 +62,16 @@ module _ {K : ℕ} (cells : List CellWord) (held : ℕ) (nodes : List Node) (lis
     many = refl;
     given = λ a low. refl;
     stands = λ a g e. cc;
+    few = λ a g e. cc;
     missing = λ a list h low. absurd (omega arith);
   }
 
   pub chosen_more : (gates next : List (Option Gate)) (n : ℕ) (o : Option Gate) → Chosen cells held nodes lists gates n → next ≡ gates ++ o ∷ []
       → (n < held → o ≡ None) → ((g : Gate) → o ≡ Some g → StandsAt cells held nodes n g)
+      → ((g : Gate) → o ≡ Some g → length g.leaves.items ≤ K)
       → ((list : List (Cut K)) → held ≤ n → IsNumber lists n list → o ≡ None → NoneOfCuts cells list)
       → Chosen cells held nodes lists next (n + 1)
-  chosen_more gates next n o is more low stands none = subst (λ (gs : List (Option Gate)). Chosen cells held nodes lists gs (n + 1)) (sym more) record {
+  chosen_more gates next n o is more low stands few none = subst (λ (gs : List (Option Gate)). Chosen cells held nodes lists gs (n + 1)) (sym more) record {
     many = let e = length-append gates (o ∷ []) in let m = is.many in omega arith;
     given = λ a below. elim (cases_lt a (length gates)) [
       | inl front ↦ gate_front gates o a front ∙ is.given a below
@@ -79,6 +83,10 @@ module _ {K : ℕ} (cells : List CellWord) (held : ℕ) (nodes : List Node) (lis
     stands = λ a g e. elim (gate_end gates o a (Some g) e) [
       | inl before ↦ is.stands a g before
       | inr last ↦ let m = is.many in let here : n ≡ a = omega (arith, last.0) in subst (λ (k : ℕ). StandsAt cells held nodes k g) here (stands g last.1)
+    ];
+    few = λ a g e. elim (gate_end gates o a (Some g) e) [
+      | inl before ↦ is.few a g before
+      | inr last ↦ few g last.1
     ];
     missing = λ a list above below at e. elim (cases_lt a n) [
       | inl less ↦ let m = is.many in is.missing a list above less at (sym (gate_front gates o a (omega arith)) ∙ e)
@@ -96,5 +104,6 @@ module _ {K : ℕ} (cells : List CellWord) (held : ℕ) (nodes : List Node) (lis
     many = is.many ∙ all;
     given = is.given;
     stands = is.stands;
+    few = is.few;
     missing = λ a list above at e. let b = number_below lists a list at in is.missing a list above (omega arith) at e;
   }

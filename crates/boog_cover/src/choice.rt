@@ -28,7 +28,7 @@ fn is_less(a: Cost, b: Cost) -> bool {
 
 /// A node's cost is its cell's area with the costs of its leaves, each shared among all that read it.
 fn cost_of(gate: &Gate, areas: &[u32], costs: &[Cost], counts: &[u32]) -> Cost {
-    let area = match areas.get(gate.cell as usize) {
+    let area = match areas.get(gate.cell) {
         Some(area) => *area,
         None => 1,
     };

@@ -2,12 +2,12 @@
 #![tactic(auto)]
 
 mod choice;
-mod cover;
+mod graph_cover;
 mod law;
 mod needed;
 mod rounds;
 
 pub use choice::{Cost, choices};
-pub use cover::covered;
+pub use graph_cover::cover;
 pub use law::covered_is_cut;
 pub use needed::prune;

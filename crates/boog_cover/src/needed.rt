@@ -27,9 +27,10 @@ fn mark_gate(marks: &mut [bool], gate: &Option<Gate>)
     }
 }
 
-/// Takes out each gate that no root and no other gate needs. The marks are for its own use.
+/// Takes out each gate that no root and no other gate needs. The marks are for its own use: none may stand.
 pub fn prune(gates: &mut [Option<Gate>], marks: &mut [bool], held: usize, roots: &[u32])
     requires long { length marks.old ≡ length gates.old }
+    requires clear { (x : ℕ) → IsMarked marks.old x → ⊥ }
     requires roots { (x : ℕ) → 0 < times x roots.now → x < length gates.old }
     requires full { IsFull held gates.old }
     ensures { IsPruned held gates.old gates.new roots.now }

@@ -77,7 +77,7 @@ fn area_of(gates: &[Option<Gate>], areas: &[u32], readers: &[u32]) -> u64 {
             continue;
         }
         if let Some(gate) = &gates[number] {
-            if let Some(own) = areas.get(gate.cell as usize) {
+            if let Some(own) = areas.get(gate.cell) {
                 area = area.saturating_add(*own as u64);
             }
         }

@@ -1,10 +1,10 @@
 -- The nodes of two lists, one by one.
-use Rattle.std.proofs.Common.{◌≡◌, inl, inr, ℕ, ◌+◌, ◌<◌, ◌≤◌, Bool, List, [], ◌∷◌, ◌++◌, map, length, take, get_or, ap, refl, sym, subst, ◌∙◌, arith, All}
+use Rattle.std.proofs.Common.{◌≡◌, inl, inr, ℕ, ◌+◌, ◌<◌, ◌≤◌, Bool, List, [], ◌∷◌, ◌++◌, map, length, take, get_or, ap, refl, sym, subst, ◌∙◌, arith, All, length-append}
 use Prim.Native.Nat.{zero, suc}
 use Rattle.truth_tab.specs.Table.{bit}
 use Rattle.cell_match.specs.Places.{times, place}
-use Rattle.cell_match.proofs.Numbers.{one, one_tells, times_more, times_some}
-use Rattle.cell_match.proofs.Pigeons.{times_append, place_there}
+use Rattle.cell_match.proofs.Numbers.{one, one_tells, times_more, times_take, times_some}
+use Rattle.cell_match.proofs.Pigeons.{no_longer, times_append, place_there}
 use Rattle.cell_match.proofs.Composing.{map_on, map_twice}
 use Rattle.boog_cuts.specs.Cuts.{IsUnion}
 
@@ -68,6 +68,17 @@ module _ (first second : List ℕ) (i : ℕ) (nodes : List ℕ) (low : i < lengt
       ],
     );
   }
+
+  -- no union is as short as a full list that lacks a number
+  pub union_full : times (get_or second i 0) nodes ≡ 0 → (all : List ℕ) → IsUnion first second all → length nodes < length all
+  union_full new all whole =
+      let next = union_add new in
+      let e = no_longer (nodes ++ get_or second i 0 ∷ []) all next.once (λ x some. elim ((next.members x).0 some) [
+        | inl by ↦ (whole.members x).1 (inl by)
+        | inr by ↦ let t = times_take x second (i + 1) in (whole.members x).1 (inr (omega arith))
+      ]) in
+      let l = length-append nodes (get_or second i 0 ∷ []) in
+      omega arith
 
 -- each leaf has a place among the nodes
 mapped_bit : (f : ℕ → Bool) (xs : List ℕ) (i : ℕ) → i < length xs → bit (map f xs) i ≡ f (get_or xs i 0)

@@ -1,13 +1,15 @@
 -- Cuts of nodes, and tables of them.
-use Rattle.std.proofs.Common.{◌≡◌, inl, inr, ℕ, ◌<◌, ◌≤◌, Bool, not, ◌&&◌, List, [], ◌∷◌, ◌++◌, length, ap, ap₂, refl, sym, subst, ◌∙◌, arith}
+use Rattle.std.proofs.Common.{◌≡◌, ◌⊎◌, inl, inr, ℕ, ◌<◌, ◌≤◌, Bool, not, ◌&&◌, ◌||◌, nat_eq, eq-eqb, IsTrue, List, [], ◌∷◌, ◌++◌, length, ap, ap₂, refl, sym, subst, ◌∙◌, arith}
 use Prim.Native.Nat.{zero, suc}
+use Rattle.std.proofs.Math.Bool.{or-true}
 use Rattle.net_theory.specs.Sources.{IsNumber}
 use Rattle.graph_theory.specs.Graph.{fixed, inv, nand}
 use Rattle.cell_match.specs.Places.{times}
 use Rattle.cell_match.proofs.Numbers.{one_tells}
 use Rattle.cell_match.specs.declared.cut.Cut.{Cut}
 use Rattle.cell_match.specs.Computes.{cut_value}
-use Rattle.boog_cuts.specs.Cuts.{IsUnion, AllGive, AreCuts, HasDirect, AreNodeCuts}
+use Rattle.boog_cuts.specs.Cuts.{IsUnion, AllGive, AllLeaves, AreCuts, IsLeafBelow, HasDirect, AreNodeCuts}
+use Rattle.boog_cuts.specs.Reads.{reads}
 use Rattle.boog_cuts.proofs.Growing.{number_end}
 use Rattle.boog_cuts.specs.Lists.{AreMade, FromOne, FromTwo, BeginsOne, BeginsTwo}
 
@@ -22,6 +24,16 @@ alone x n = elim (one_tells n x) [
   | inl is ↦ let o = is.1 in omega arith
   | inr isnt ↦ let o = isnt.1 in omega arith
 ]
+
+-- what a node reads
+read_left : (a : ℕ) → IsTrue (reads (inv a) a)
+read_left a = eq-eqb a a refl
+
+read_first : (a b : ℕ) → IsTrue (reads (nand a b) a)
+read_first a b = ap (λ (t : Bool). t || nat_eq b a) (eq-eqb a a refl)
+
+read_second : (a b : ℕ) → IsTrue (reads (nand a b) b)
+read_second a b = ap (λ (t : Bool). nat_eq a b || t) (eq-eqb b b refl) ∙ or-true (nat_eq a b)
 
 module _ {K : ℕ} where
   -- each leaf of a cut of node a is a or an earlier node
@@ -50,6 +62,22 @@ module _ {K : ℕ} where
     go zero c h = ap (λ (d : Cut K). cut_value d f) h ∙ value f
     go (suc i) c h = absurd h
 
+  pub own_leaves : (number : ℕ) (cuts : List (Cut K)) (node : Cut K) → cuts ≡ node ∷ [] → node.leaves.items ≡ number ∷ []
+      → AllLeaves (λ x. x ≡ number) cuts
+  own_leaves number cuts node is leaves = subst (λ (xs : List (Cut K)). AllLeaves (λ x. x ≡ number) xs) (sym is) go where
+    go : (i : ℕ) (c : Cut K) (x : ℕ) → IsNumber (node ∷ []) i c → 0 < times x c.leaves.items → x ≡ number
+    go zero c x h some = only x number (subst (λ (xs : List ℕ). 0 < times x xs) (ap (λ (d : Cut K). d.leaves.items) h ∙ leaves) some)
+    go (suc i) c x h some = absurd h
+
+  pub leaves_added : (number : ℕ) (cuts next : List (Cut K)) (c : Cut K) → AllLeaves (λ x. x ≡ number) cuts → next ≡ cuts ++ c ∷ []
+      → c.leaves.items ≡ [] → AllLeaves (λ x. x ≡ number) next
+  leaves_added number cuts next c all is none = subst (λ (xs : List (Cut K)). AllLeaves (λ x. x ≡ number) xs) (sym is)
+      (λ i d x h some. elim (number_end cuts c i d h) [
+        | inl in_front ↦ all i d x in_front some
+        | inr at_end ↦
+            let e = ap (λ (xs : List ℕ). times x xs) (ap (λ (f : Cut K). f.leaves.items) at_end ∙ none) in absurd (omega arith)
+      ])
+
   -- what is true of cuts that are made
   module _ (P : Cut K → Type 0) (number : ℕ) (cuts : List (Cut K)) (made : AreMade P number cuts) where
     made_cuts : ((c : Cut K) → P c → (x : ℕ) → times x c.leaves.items ≤ 1) → ((c : Cut K) → P c → (x : ℕ) → 0 < times x c.leaves.items → x < number)
@@ -71,12 +99,30 @@ module _ {K : ℕ} where
       go zero c h = ap (λ (d : Cut K). cut_value d f) h ∙ made.value f
       go (suc i) c h = value c (made.made i c h)
 
+    made_leaves : (Q : ℕ → Type 0) → ((c : Cut K) → P c → (x : ℕ) → 0 < times x c.leaves.items → Q x)
+        → AllLeaves (λ x. (x ≡ number) ⊎ Q x) cuts
+    made_leaves Q each = subst (λ (xs : List (Cut K)). AllLeaves (λ x. (x ≡ number) ⊎ Q x) xs) (sym made.is) go where
+      go : (i : ℕ) (c : Cut K) (x : ℕ) → IsNumber (made.node ∷ made.rest) i c → 0 < times x c.leaves.items → (x ≡ number) ⊎ Q x
+      go zero c x h some =
+          inl (only x number (subst (λ (xs : List ℕ). 0 < times x xs) (ap (λ (d : Cut K). d.leaves.items) h ∙ made.leaves) some))
+      go (suc i) c x h some = inr (each c (made.made i c h) x some)
+
   pub inv_node : (number a : ℕ) (lists : List (List (Cut K))) (first own : List (Cut K)) → a < number → IsNumber lists a first → AreCuts a first
       → AreMade (FromOne first) number own → BeginsOne first own → AreNodeCuts (inv a) number lists own
   inv_node number a lists first own low at are made begins = record {
     cuts = made_cuts (FromOne first) number own made
         (λ c p x. subst (λ (xs : List ℕ). times x xs ≤ 1) (sym p.3.leaves) (are.once p.0 p.1 p.2 x))
         (λ c p x some. let e = low_leaf a first p.0 p.1 are p.2 x (subst (λ (xs : List ℕ). 0 < times x xs) p.3.leaves some) in omega arith);
+    leaves = made_leaves (FromOne first) number own made (IsLeafBelow (inv a) lists) (λ c p x some. record {
+      son = a;
+      is_read = read_left a;
+      list = first;
+      listed = at;
+      place = p.0;
+      cut = p.1;
+      at = p.2;
+      leaf = subst (λ (xs : List ℕ). 0 < times x xs) p.3.leaves some;
+    });
     direct = record {
       cut = begins.1;
       second = begins.3;
@@ -96,6 +142,28 @@ module _ {K : ℕ} where
           | inl by_first ↦ let e = low_leaf a first p.0 p.2 are p.4 x by_first in omega arith
           | inr by_second ↦ let e = low_leaf b second p.1 p.3 are_too p.5 x by_second in omega arith
         ]);
+    leaves = made_leaves (FromTwo first second) number own made (IsLeafBelow (nand a b) lists) (λ c p x some. elim ((p.6.leaves.members x).0 some) [
+      | inl by_first ↦ record {
+        son = a;
+        is_read = read_first a b;
+        list = first;
+        listed = at;
+        place = p.0;
+        cut = p.2;
+        at = p.4;
+        leaf = by_first;
+      }
+      | inr by_second ↦ record {
+        son = b;
+        is_read = read_second a b;
+        list = second;
+        listed = at_too;
+        place = p.1;
+        cut = p.3;
+        at = p.5;
+        leaf = by_second;
+      }
+    ]);
     direct = record {
       cut = begins.2;
       second = begins.5;

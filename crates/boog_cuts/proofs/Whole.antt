@@ -5,7 +5,9 @@ use Rattle.net_theory.specs.Sources.{IsNumber}
 use Rattle.net_theory.proofs.Basics.{number_below}
 use Rattle.graph_theory.specs.Graph.{Node}
 use Rattle.cell_match.specs.declared.cut.Cut.{Cut}
-use Rattle.boog_cuts.specs.Cuts.{AllGive, AreCuts, AreNodeCuts, HasDirect, IsCutTable}
+use Rattle.cell_match.specs.Places.{times}
+use Rattle.boog_cuts.specs.Reads.{Reaches, itself, step}
+use Rattle.boog_cuts.specs.Cuts.{AllGive, AllLeaves, AreCuts, IsLeafBelow, AreNodeCuts, HasDirect, IsCutTable}
 use Rattle.boog_cuts.proofs.Growing.{number_front}
 
 -- the last of a list with one more, at its place
@@ -35,13 +37,29 @@ take_long [] (suc i) h = absurd (omega arith)
 take_long (x ∷ xs) zero h = refl
 take_long (x ∷ xs) (suc i) h = let e = take_long xs i (omega arith) in omega arith
 
+-- what is reached, in longer lists of nodes and by way of another number
+moved : (n a x : ℕ) → Reaches n [] a x → Reaches (n + 1) [] a x
+moved n a x itself = itself
+moved n a x (step j kind r at is) = absurd at
+
+reached_same : (held : ℕ) (nodes : List Node) (a x : ℕ) → x ≡ a → Reaches held nodes a x
+reached_same held nodes a x e = subst (λ (n : ℕ). Reaches held nodes a n) (sym e) itself
+
+reached_more : (held : ℕ) (nodes more : List Node) (a x : ℕ) → Reaches held nodes a x → Reaches held (nodes ++ more) a x
+reached_more held nodes more a x itself = itself
+reached_more held nodes more a x (step j kind r at is) = step j kind (reached_more held nodes more a (held + j) r) (number_front nodes more j kind at) is
+
+pub reached_through : (held : ℕ) (nodes : List Node) (a b x : ℕ) → Reaches held nodes a b → Reaches held nodes b x → Reaches held nodes a x
+reached_through held nodes a b x first itself = first
+reached_through held nodes a b x first (step j kind r at is) = step j kind (reached_through held nodes a b (held + j) first r) at is
+
 module _ {K : ℕ} where
   pub table_none : IsCutTable {K = K} 0 [] []
-  table_none = record { many = omega arith; cuts = λ a list h. absurd h; value = λ f v a list h. absurd h; direct = λ j kind list h. absurd h }
+  table_none = record { many = omega arith; cuts = λ a list h. absurd h; value = λ f v a list h. absurd h; reached = λ a list h. absurd h; direct = λ j kind list h. absurd h }
 
   pub table_input : (n : ℕ) (lists next : List (List (Cut K))) (own : List (Cut K)) → IsCutTable n [] lists → next ≡ lists ++ own ∷ []
-      → AreCuts n own → ((f : ℕ → Bool) → AllGive f (f n) own) → IsCutTable (n + 1) [] next
-  table_input n lists next own is more are give = subst (λ (ls : List (List (Cut K))). IsCutTable (n + 1) [] ls) (sym more) record {
+      → AreCuts n own → ((f : ℕ → Bool) → AllGive f (f n) own) → AllLeaves (λ x. x ≡ n) own → IsCutTable (n + 1) [] next
+  table_input n lists next own is more are give only = subst (λ (ls : List (List (Cut K))). IsCutTable (n + 1) [] ls) (sym more) record {
     many = let e = length-append lists (own ∷ []) in let m = is.many in omega arith;
     cuts = λ a list h. elim (number_last lists own a list h) [
       | inl in_front ↦ is.cuts a list in_front
@@ -57,8 +75,27 @@ module _ {K : ℕ} where
           let here : n ≡ a = omega (arith, at_end.0) in
           subst (λ (k : ℕ). AllGive f (f k) list) here (subst (λ (l : List (Cut K)). AllGive f (f n) l) (sym at_end.1) (give f))
     ];
+    reached = λ a list h i c x at some. elim (number_last lists own a list h) [
+      | inl in_front ↦ moved n a x (is.reached a list in_front i c x at some)
+      | inr at_end ↦
+          let m = is.many in
+          let here : n ≡ a = omega (arith, at_end.0) in
+          reached_same (n + 1) [] a x (only i c x (subst (λ (l : List (Cut K)). IsNumber l i c) at_end.1 at) some ∙ here)
+    ];
     direct = λ j kind list h. absurd h;
   }
+
+  -- a leaf of a cut of the last node
+  leaf_reached : (held i : ℕ) (nodes : List Node) (kind : Node) (lists : List (List (Cut K))) (number x : ℕ) → IsCutTable held nodes lists
+      → IsNumber (nodes ++ kind ∷ []) i kind → number ≡ held + i → (x ≡ number) ⊎ IsLeafBelow kind lists x
+      → Reaches held (nodes ++ kind ∷ []) number x
+  leaf_reached held i nodes kind lists number x is at is_number leaf = elim leaf [
+    | inl same ↦ reached_same held (nodes ++ kind ∷ []) number x same
+    | inr by ↦
+        let here : Reaches held (nodes ++ kind ∷ []) number (held + i) = reached_same held (nodes ++ kind ∷ []) number (held + i) (sym is_number) in
+        reached_through held (nodes ++ kind ∷ []) number by.son x (step i kind here at by.is_read)
+        (reached_more held nodes (kind ∷ []) by.son x (is.reached by.son by.list by.listed by.place by.cut x by.at by.leaf))
+  ]
 
   pub table_node : (held i : ℕ) (nodes : List Node) (kind : Node) (lists next : List (List (Cut K))) (own : List (Cut K)) (number : ℕ)
       → IsCutTable held (take i nodes) lists → next ≡ lists ++ own ∷ [] → IsNumber nodes i kind → number ≡ held + i
@@ -87,6 +124,16 @@ module _ {K : ℕ} where
                   let here : number ≡ a = omega (arith, at_end.0) in
                   subst (λ (k : ℕ). AllGive f (f k) list) here (subst (λ (l : List (Cut K)). AllGive f (f number) l) (sym at_end.1)
                   (made.value f before (ap f is_number ∙ values i kind last)))
+            ];
+        reached = λ a list h k c x at_k some.
+            let last : IsNumber (take i nodes ++ kind ∷ []) i kind = subst (λ (n : ℕ). IsNumber (take i nodes ++ kind ∷ []) n kind) long (number_at_end (take i nodes) kind) in
+            elim (number_last lists own a list h) [
+              | inl in_front ↦ reached_more held (take i nodes) (kind ∷ []) a x (is.reached a list in_front k c x at_k some)
+              | inr at_end ↦
+                  let here : number ≡ a = omega (arith, at_end.0) in
+                  subst (λ (n : ℕ). Reaches held (take i nodes ++ kind ∷ []) n x) here
+                  (leaf_reached held i (take i nodes) kind lists number x is last is_number
+                  (made.leaves k c x (subst (λ (l : List (Cut K)). IsNumber l k c) at_end.1 at_k) some))
             ];
         direct = λ j other list n h. elim (number_last (take i nodes) kind j other n) [
           | inl in_front ↦

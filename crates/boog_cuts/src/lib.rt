@@ -5,5 +5,6 @@ mod merge;
 mod nodes;
 mod table;
 
+pub use merge::{inverse, merged, single};
 pub use nodes::KEPT;
 pub use table::{CutTable, cuts};

@@ -10,7 +10,7 @@ use cell_match::{Cut, place, places};
 use truth_tab::Truth;
 
 /// The cut of a node that is the node itself.
-pub(crate) fn single<const K: usize>(node: u32) -> Cut<K>
+pub fn single<const K: usize>(node: u32) -> Cut<K>
     requires some { 0 < K }
     requires few { K ≤ 6 }
     ensures leaves { result.leaves.items ≡ node ∷ [] }
@@ -36,7 +36,7 @@ fn copied<const K: usize>(nodes: &[u32]) -> ArrayVec<u32, K>
 }
 
 /// The cut of an inverter that has the leaves of a cut of what it reads.
-pub(crate) fn inverse<const K: usize>(cut: &Cut<K>) -> Cut<K>
+pub fn inverse<const K: usize>(cut: &Cut<K>) -> Cut<K>
     requires { K ≤ 6 }
     ensures leaves { result.leaves.items ≡ cut.now.leaves.items }
     ensures value { (f : ℕ → Bool) → cut_value result f ≡ not (cut_value cut.now f) }
@@ -53,6 +53,7 @@ fn joined<const K: usize>(first: &[u32], second: &[u32]) -> Option<ArrayVec<u32,
     requires once { (x : ℕ) → times x first.now ≤ 1 }
     ensures some { IfSome result (λ nodes. IsUnion first.now second.now nodes.items) }
     ensures none { IfNone result (K < length first.now + length second.now) }
+    ensures wide { IfNone result ((nodes : List ℕ) → IsUnion first.now second.now nodes → K < length nodes) }
 {
     let mut nodes: ArrayVec<u32, K> = copied(first);
     for leaf in second {
@@ -80,12 +81,13 @@ fn on_nodes<const K: usize>(word: Truth<K>, nodes: &[u32], leaves: &[u32]) -> Tr
 }
 
 /// The cut of a gate from a cut of each node that it reads; None where it would have more than K leaves.
-pub(crate) fn merged<const K: usize>(first: &Cut<K>, second: &Cut<K>) -> Option<Cut<K>>
+pub fn merged<const K: usize>(first: &Cut<K>, second: &Cut<K>) -> Option<Cut<K>>
     requires few { K ≤ 6 }
     requires once { (x : ℕ) → times x first.now.leaves.items ≤ 1 }
     ensures leaves { IfSome result (λ c. IsUnion first.now.leaves.items second.now.leaves.items c.leaves.items) }
     ensures value { IfSome result (λ c. (f : ℕ → Bool) → cut_value c f ≡ not (cut_value first.now f && cut_value second.now f)) }
     ensures none { IfNone result (K < length first.now.leaves.items + length second.now.leaves.items) }
+    ensures wide { IfNone result ((nodes : List ℕ) → IsUnion first.now.leaves.items second.now.leaves.items nodes → K < length nodes) }
 {
     match joined(first.leaves.as_slice(), second.leaves.as_slice()) {
         None => None,

@@ -4,7 +4,7 @@ ghost use Rattle.net_theory.specs.Sources.{IsNumber};
 ghost use Rattle.graph_theory.specs.Graph.{fixed, ReadsBelow, EachReadsEarlier};
 ghost use Rattle.subject_table.specs.View.{node_view};
 ghost use Rattle.cell_match.specs.declared.cut.Cut.{Cut};
-ghost use Rattle.boog_cuts.specs.Cuts.{AllGive, HasDirect, AreCuts, AreNodeCuts, IsCutTable};
+ghost use Rattle.boog_cuts.specs.Cuts.{AllGive, AllLeaves, HasDirect, AreCuts, AreNodeCuts, IsCutTable};
 
 use crate::merge::single;
 use crate::nodes::{inv_cuts, nand_cuts};
@@ -26,6 +26,7 @@ fn own_cut<const K: usize>(alloc: Global, number: u32) -> Result<Vec<Cut<K>>, Al
     ensures cuts { IfOk result (λ cuts. AreCuts number cuts.items) }
     ensures value { IfOk result (λ cuts. (f : ℕ → Bool) → AllGive f (f number) cuts.items) }
     ensures one { IfOk result (λ cuts. length cuts.items ≡ 1) }
+    ensures leaves { IfOk result (λ cuts. AllLeaves (λ x. x ≡ number) cuts.items) }
 {
     let mut cuts = Vec::new(alloc);
     cuts.push(single(number))?;
@@ -41,6 +42,7 @@ fn fixed_cuts<const K: usize>(
     requires few { K ≤ 6 }
     ensures cuts { IfOk result (λ cuts. AreCuts number cuts.items) }
     ensures value { IfOk result (λ cuts. (f : ℕ → Bool) → f number ≡ value → AllGive f (f number) cuts.items) }
+    ensures leaves { IfOk result (λ cuts. AllLeaves (λ x. x ≡ number) cuts.items) }
     ensures direct { IfOk result (λ cuts. HasDirect (fixed value) cuts.items) }
 {
     let mut cuts = own_cut(alloc, number)?;

@@ -16,7 +16,7 @@ use Rattle.net_core.specs.Frame.{IsNoPlaceFor}
 use Rattle.net_core.specs.Joins.{Draft, draft_terminals, with_instance, with_join, IsNoJoin}
 use Rattle.net_core.proofs.Frames.{mapped, unmapped}
 use Rattle.net_theory.proofs.Basics.{length-map}
-use Rattle.boog_map.specs.declared.part.Parts.{Parts}
+use Rattle.boog_map.specs.declared.choice.Parts.{Parts}
 use Rattle.boog_map.specs.declared.place.Spot.{Spot}
 use Rattle.boog_map.specs.Tied.{part_of}
 use Rattle.boog_map.specs.Draft.{instance_of, with_instances, with_joins, IsPlaceable}
@@ -65,7 +65,7 @@ front_pins ps (s ∷ spots) (suc i) =
 
 -- there is room for the pins of one more
 pub room_for_one : (d : Draft) (ps : Parts) (spots : List Spot) (i : ℕ) (s : Spot) → IsPlaceable d ps spots → i < length spots → s ≡ get_or spots i s
-    → length (draft_terminals (with_instances d (map (instance_of ps) (take i spots)))) + length (part_of ps s.kind).pins < 2 ^ 32
+    → length (draft_terminals (with_instances d (map (instance_of ps) (take i spots)))) + length (part_of ps s.role).pins < 2 ^ 32
 room_for_one d ps spots i s can low is =
     let here_is = ap (λ (xs : List Instance). length (terminals_of d.ports (xs ++ map (instance_of ps) (take i spots)))) can.none in
     let now = length-append (map (λ (p : Port). port p.name) d.ports) (flat_map pins_of (map (instance_of ps) (take i spots))) in
@@ -78,8 +78,8 @@ room_for_one d ps spots i s can low is =
     ∙ ap length (flat_map-append pins_of (map (instance_of ps) (take i spots)) (instance_of ps s ∷ [])) in
     let split = length-append (flat_map pins_of (map (instance_of ps) (take i spots))) (flat_map pins_of (instance_of ps s ∷ [])) in
     let one = length-append (pins_of (instance_of ps s)) [] in
-    let size = length-map (λ (x : Name). x) (part_of ps s.kind).pins in
-    let pins : length (pins_of (instance_of ps s)) ≡ length (part_of ps s.kind).pins = length-map _ (part_of ps s.kind).pins in
+    let size = length-map (λ (x : Name). x) (part_of ps s.role).pins in
+    let pins : length (pins_of (instance_of ps s)) ≡ length (part_of ps s.role).pins = length-map _ (part_of ps s.role).pins in
     omega (arith, here_is, now, all, few, more, next, split, one, pins)
 
 pub few_so_far : (d : Draft) (ps : Parts) (spots : List Spot) (i : ℕ) → IsPlaceable d ps spots → i < length spots

@@ -157,10 +157,18 @@ module _ (n : InMemory) (sound : IsNetlist n) (told : List (Terminal × Signal))
     class_is : (t : Terminal) (s : Signal) (a : At t s) → k.class t ≡ a.1
     class_is t s a = seen.classes.each t a.1 (a.0, a.3, a.4)
 
+    pub signal_told : (t : Terminal) (s : Signal) → In (t, s) told → signal_at n.classes told (k.class t) ≡ s
+    signal_told t s h = let a = at t s h in ap (signal_at n.classes told) (class_is t s a) ∙ signal_of_class a.1 a.0 (t, s) a.4 a.2
+
     pub source_told : (t : Terminal) (s : Signal) → In (t, s) told → source_of (sourced_by n told k) t ≡ source_of_signal s
-    source_told t s h =
-        let a = at t s h in
-        ap source_of_signal (ap (signal_at n.classes told) (class_is t s a) ∙ signal_of_class a.1 a.0 (t, s) a.4 a.2)
+    source_told t s h = ap source_of_signal (signal_told t s h)
+
+    -- terminals of one signal are in one class
+    pub class_alike : (t u : Terminal) (s : Signal) → In (t, s) told → In (u, s) told → k.class t ≡ k.class u
+    class_alike t u s p q =
+        let a = at t s p in
+        let b = at u s q in
+        class_is t s a ∙ (joined t u a.1 b.1 (a.0, a.3, a.4) (b.0, b.3, b.4)).1 (meet t u s p q) ∙ sym (class_is u s b)
 
     count_is : k.classes ≡ n.count
     count_is = ap (λ (x : AbstractNetlist). x.classes) seen.is

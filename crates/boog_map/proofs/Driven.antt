@@ -1,19 +1,17 @@
 -- The terminals of a mapped machine: each has a signal whose driver is there.
-use Rattle.std.proofs.Common.{◌≡◌, ◌≢◌, ◌⊎◌, inl, inr, ℕ, zero, suc, ◌+◌, ◌-◌, ◌<◌, ◌==◌, ◌||◌, Bool, true, false, List, [], ◌∷◌, ◌++◌, length, map, refl, sym, ◌∙◌, ap, subst, arith, Option, None, Some, get_or}
+use Rattle.std.proofs.Common.{◌≡◌, ◌≢◌, ◌⊎◌, inl, inr, ℕ, zero, suc, ◌+◌, ◌-◌, ◌<◌, true, false, List, [], ◌∷◌, ◌++◌, length, map, refl, sym, ◌∙◌, ap, subst, arith, Option, None, Some, get_or}
 use Rattle.std.specs.Prelude.{unwrap_or}
 use Rattle.std.specs.List.{flat_map}
-use Rattle.std.proofs.lemmas.Bool.{eq-eqb, cases_lt}
+use Rattle.std.proofs.lemmas.Bool.{cases_lt}
 use Rattle.std.proofs.lemmas.List.{map-append}
 use Rattle.vlsi_base.specs.declared.name.Name.{Name}
 use Rattle.vlsi_base.specs.declared.name.Port.{Port}
 use Rattle.vlsi_base.specs.declared.name.Terminal.{Terminal}
 use Rattle.vlsi_base.specs.Names.{vdd, vss}
 use Rattle.vlsi_base.specs.Member.{In, here, there}
-use Rattle.bool_expr.specs.Expression.{bit}
 use Rattle.machine_core.specs.Machine.{Machine, inputs, outputs, is_clock, is_input, names_of}
 use Rattle.machine_core.specs.Checked.{IsChecked}
 use Rattle.machine_core.proofs.Names.{same_name-itself}
-use Rattle.vlsi_base.specs.declared.kind.Kind.{Kind}
 use Rattle.cell_model.specs.Cell.{Cell, cell_outputs}
 use Rattle.cell_model.specs.Library.{Library}
 use Rattle.cell_model.specs.Usable.{IsFormed}
@@ -27,27 +25,36 @@ use Rattle.net_core.proofs.Frames.{mapped}
 use Rattle.net_core.proofs.Standing.{stands_left, stands_right}
 use Rattle.net_theory.specs.Sources.{IsNumber}
 use Rattle.net_theory.proofs.Basics.{In-map, In-map_back, at_number, length-map, number_below, number_in, number_of}
-use Rattle.graph_theory.specs.Graph.{Node, fixed, inv, nand, Graph, held_count}
+use Rattle.cell_match.specs.declared.gate.Gate.{Gate}
+use Rattle.cell_match.specs.Places.{times}
+use Rattle.cell_match.proofs.Pigeons.{times_append}
+use Rattle.boog_tight.specs.Cover.{gate_at as gate_of_node, uses}
+use Rattle.boog_tight.proofs.Counting.{used_some}
+use Rattle.boog_cover.specs.Covered.{IsCovered}
+use Rattle.graph_theory.specs.Graph.{Graph, held_count}
 use Rattle.subject_graph.specs.Subject.{IsSubjectGraph}
 use Rattle.boog_map.specs.declared.part.Tie.{Tie}
 use Rattle.boog_map.specs.declared.part.Tie.TheVariants as tie
 use Rattle.boog_map.specs.declared.part.TiedPin.{TiedPin}
 use Rattle.boog_map.specs.declared.part.Part.{Part}
-use Rattle.boog_map.specs.declared.part.Parts.{Parts}
+use Rattle.boog_map.specs.declared.choice.Role.{Role}
+use Rattle.boog_map.specs.declared.choice.Parts.{Parts}
 use Rattle.boog_map.specs.declared.place.Signal.{Signal}
 use Rattle.boog_map.specs.declared.place.Signal.TheVariants as signal
 use Rattle.boog_map.specs.declared.place.Spot.{Spot}
 use Rattle.boog_map.specs.declared.ports.TiedPort.{TiedPort}
 use Rattle.boog_map.specs.declared.drivers.Drivers.{Drivers}
-use Rattle.boog_map.specs.Reached.{IsReached, AreReached, reads, shown, loaded, read}
 use Rattle.boog_map.specs.Netlist.{has_registers}
-use Rattle.boog_map.specs.Tied.{part_of, tied_pin, first_of, IsPart, AreParts}
+use Rattle.boog_map.specs.Tied.{part_of, gate_words, tied_pin, read_pins, IsPart}
 use Rattle.boog_map.specs.Draft.{tied_ports, port_signals, spot_signals, tied_signal, driver, IsNumbered, AreDrivers, instance_of, output_terminal, register_spot, register_spots, gate_spot, gate_spots, gate_drivers}
-use Rattle.boog_map.specs.Mapped.{spots_of, drivers_of}
-use Rattle.boog_map.proofs.Lists.{number_stands, there_in, within, got}
+use Rattle.boog_map.specs.Mapped.{root_numbers, node_gates, spots_of, drivers_of}
+use Rattle.boog_map.proofs.Dropped.{dropped, undropped}
+use Rattle.boog_map.proofs.Lists.{number_stands, within, got}
 use Rattle.boog_map.proofs.MachinePorts.{ports_sorted, ports_apart}
 use Rattle.boog_map.proofs.PortSignals.{tied, ports_told, both_keep, both_back, supply_told, input_told, output_told, clock_told, signal_told, IsPortSignal, of_clock, of_input, of_output}
-use Rattle.boog_map.proofs.Spots.{register_at, register_found, register_count, gate_at, gate_found, shown_is}
+use Rattle.boog_map.proofs.Marks.{in_times}
+use Rattle.boog_map.proofs.Roles.{AreRoles}
+use Rattle.boog_map.proofs.Spots.{register_at, register_found, register_count, gate_at, gate_found}
 use Rattle.boog_map.proofs.Supplied.{has_vdd, has_vss}
 use Rattle.boog_map.proofs.Pins.{signal_tied, output_told as pin_output_told}
 
@@ -72,31 +79,26 @@ clock_some (Some other) name h = (other, refl)
 abbrev told_terminal : Terminal × Signal → Terminal
 told_terminal t = t.0
 
-bit_within : (w : List Bool) (k : ℕ) → bit w k ≡ true → k < length w
-bit_within [] k h = absurd (cc h)
-bit_within (b ∷ w) zero h = omega arith
-bit_within (b ∷ w) (suc k) h = let r = bit_within w k h in omega (arith, r)
-
 -- the pins of an instance, by what they are tied to
 pins_are : (c : Cell) (p : Part) (s : Spot) → IsPart c p
     → map told_terminal (map (λ q. (pin_of s.name q.name, tied_signal s q.tie)) p.ties.items) ≡ map (pin_of s.name) p.pins
 pins_are c p s is =
     ap (λ (ts : List TiedPin). map told_terminal (map (λ q. (pin_of s.name q.name, tied_signal s q.tie)) ts)) is.ties
     ∙ by (all_ports c) ∙ ap (map (pin_of s.name)) (sym is.pins) where
-      by : (qs : List Port) → map told_terminal (map (λ q. (pin_of s.name q.name, tied_signal s q.tie)) (map (tied_pin (first_of c)) qs)) ≡ map (pin_of s.name) (names_of qs)
+      by : (qs : List Port) → map told_terminal (map (λ q. (pin_of s.name q.name, tied_signal s q.tie)) (map (tied_pin (read_pins c)) qs)) ≡ map (pin_of s.name) (names_of qs)
       by [] = refl
       by (q ∷ qs) = ap (λ (ts : List Terminal). pin_of s.name q.name ∷ ts) (by qs)
 
 module _ (m : Machine) (checked : IsChecked m) (g : Graph) (sub : IsSubjectGraph m g) (l : Library) (passed : HasPassed false l) (ps : Parts)
-    (parts : AreParts l.cells (has_registers m) ps) (marks : List Bool) (reached : AreReached (held_count m) g marks) where
+    (parts : AreRoles l.cells (has_registers m) ps) (gs : List (Option Gate)) (cov : IsCovered (gate_words ps) (held_count m) g.nodes (root_numbers g) gs) where
   abbrev pub spots : List Spot
-  spots = spots_of m g marks
+  spots = spots_of m g gs
 
   abbrev pub registers : List Spot
   registers = register_spots (length (inputs m)) 0 g.loads
 
   abbrev pub gates : List Spot
-  gates = gate_spots marks (held_count m) 0 g.nodes
+  gates = gate_spots (held_count m) 0 (node_gates m gs)
 
   abbrev pub ports : List Port
   ports = with_supply vss (with_supply vdd m.ports)
@@ -146,28 +148,28 @@ module _ (m : Machine) (checked : IsChecked m) (g : Graph) (sub : IsSubjectGraph
 
   -- ---- cells
 
-  abbrev pub cell_for : Kind → Cell
+  abbrev pub cell_for : Role → Cell
   cell_for k = (parts.each k).cell
 
-  pub is_part : (k : Kind) → IsPart (cell_for k) (part_of ps k)
+  pub is_part : (k : Role) → IsPart (cell_for k) (part_of ps k)
   is_part k = (parts.each k).is_part
 
-  pub cell_in : (k : Kind) → In (cell_for k) l.cells
-  cell_in k = there_in l.cells (parts.each k).chosen.place (cell_for k) (parts.each k).chosen.stands
+  pub cell_in : (k : Role) → In (cell_for k) l.cells
+  cell_in k = (parts.each k).listed
 
-  pub formed : (k : Kind) → IsFormed (cell_for k)
+  pub formed : (k : Role) → IsFormed (cell_for k)
   formed k = All-In IsFormed l.cells passed.formed (cell_for k) (cell_in k)
 
   pub spot_told : (s : Spot) (t : Terminal × Signal) → In s spots → In t (spot_signals ps s) → In t told
   spot_told s t h i = In-right t (port_signals told_ports) (flat_map (spot_signals ps) spots) (in_flat (spot_signals ps) s t spots h i)
 
-  pub output_in : (k : Kind) → In (part_of ps k).output (cell_outputs (cell_for k))
+  pub output_in : (k : Role) → In (part_of ps k).output (cell_outputs (cell_for k))
   output_in k = subst (λ (xs : List Name). In (part_of ps k).output xs) (sym (is_part k).output) here
 
   pub shows_told : (s : Spot) → In s spots → In (output_terminal ps s, signal.Node s.shown) told
   shows_told s h =
       spot_told s (output_terminal ps s, signal.Node s.shown) h
-      (pin_output_told (cell_for s.kind) (formed s.kind) (part_of ps s.kind).ties.items (is_part s.kind).ties s (part_of ps s.kind).output (output_in s.kind))
+      (pin_output_told (cell_for s.role) (formed s.role) (part_of ps s.role).ties.items (is_part s.role).ties s (part_of ps s.role).output (output_in s.role))
 
   -- ---- drivers
 
@@ -178,12 +180,12 @@ module _ (m : Machine) (checked : IsChecked m) (g : Graph) (sub : IsSubjectGraph
   Begins signal.Clock = (name : Name) × (m.clock ≡ Some name)
   Begins (signal.Node a) = (a < length (inputs m)) ⊎ ((s : Spot) × In s spots × (s.shown ≡ a))
 
-  module _ (d : Drivers) (drv : AreDrivers m.clock (drivers_of m g ps marks) d) where
+  module _ (d : Drivers) (drv : AreDrivers m.clock (drivers_of m g ps gs) d) where
     abbrev pub Good : Signal → Type 0
     Good s = In (driver d s, s) told × IsNumbered d s × Begins s
 
     abbrev drivers : List Terminal
-    drivers = drivers_of m g ps marks
+    drivers = drivers_of m g ps gs
 
     good_high : Good signal.High
     good_high = (subst (λ (t : Terminal). In (t, signal.High) told) (sym drv.on_high) on_vdd, tt, tt)
@@ -211,7 +213,7 @@ module _ (m : Machine) (checked : IsChecked m) (g : Graph) (sub : IsSubjectGraph
     good_input a low =
         let r = at_number (inputs m) a low in
         driven_by a (port r.0) (inl low)
-        (stands_left (map port (inputs m)) (map (output_terminal ps) registers ++ gate_drivers ps marks (held_count m) 0 g.nodes) a (port r.0)
+        (stands_left (map port (inputs m)) (map (output_terminal ps) registers ++ gate_drivers ps (held_count m) 0 (node_gates m gs)) a (port r.0)
         (mapped port (inputs m) a r.0 (number_stands (inputs m) a r.0 r.1)))
         (on_input a r.0 r.1)
 
@@ -231,24 +233,24 @@ module _ (m : Machine) (checked : IsChecked m) (g : Graph) (sub : IsSubjectGraph
         let e : length (inputs m) + (0 + k) ≡ length (inputs m) + k = omega arith in
         let place : length (map port (inputs m)) + k ≡ length (inputs m) + k = let n = ports_long in omega (arith, n) in
         let stands =
-        stands_right (map port (inputs m)) (map (output_terminal ps) registers ++ gate_drivers ps marks (held_count m) 0 g.nodes) k (output_terminal ps s)
-        (stands_left (map (output_terminal ps) registers) (gate_drivers ps marks (held_count m) 0 g.nodes) k (output_terminal ps s)
+        stands_right (map port (inputs m)) (map (output_terminal ps) registers ++ gate_drivers ps (held_count m) 0 (node_gates m gs)) k (output_terminal ps s)
+        (stands_left (map (output_terminal ps) registers) (gate_drivers ps (held_count m) 0 (node_gates m gs)) k (output_terminal ps s)
         (mapped (output_terminal ps) registers k s (number_stands registers k s found))) in
         of_spot s (length (inputs m) + k) (In-left s registers gates (number_in registers k s found)) e
         (let P : ℕ → Type 0 = λ x. Stands drivers x (output_terminal ps s) in subst P place stands)
 
-    good_gate : (i : ℕ) (one : Node) → IsNumber g.nodes i one → bit marks (held_count m + i) ≡ true → Good (signal.Node (held_count m + i))
-    good_gate i one h marked =
-        let r = gate_found ps marks (held_count m) 0 g.nodes i one h marked in
-        let s = gate_spot (0 + r.0) (held_count m + i) one in
+    good_gate : (i : ℕ) (x : Gate) → IsNumber (node_gates m gs) i (Some x) → Good (signal.Node (held_count m + i))
+    good_gate i x h =
+        let r = gate_found ps (held_count m) 0 (node_gates m gs) i x h in
+        let s = gate_spot (0 + r.0) (held_count m + i) x in
         let place : length (map port (inputs m)) + (length (map (output_terminal ps) registers) + i) ≡ held_count m + i =
         let a = ports_long in let b = pins_long in omega (arith, a, b) in
         let stands =
-        stands_right (map port (inputs m)) (map (output_terminal ps) registers ++ gate_drivers ps marks (held_count m) 0 g.nodes)
+        stands_right (map port (inputs m)) (map (output_terminal ps) registers ++ gate_drivers ps (held_count m) 0 (node_gates m gs))
         (length (map (output_terminal ps) registers) + i) (output_terminal ps s)
-        (stands_right (map (output_terminal ps) registers) (gate_drivers ps marks (held_count m) 0 g.nodes) i (output_terminal ps s)
-        (number_stands (gate_drivers ps marks (held_count m) 0 g.nodes) i (output_terminal ps s) r.2)) in
-        of_spot s (held_count m + i) (In-right s registers gates (number_in gates r.0 s r.1)) (shown_is (0 + r.0) (held_count m + i) one)
+        (stands_right (map (output_terminal ps) registers) (gate_drivers ps (held_count m) 0 (node_gates m gs)) i (output_terminal ps s)
+        (number_stands (gate_drivers ps (held_count m) 0 (node_gates m gs)) i (output_terminal ps s) r.2)) in
+        of_spot s (held_count m + i) (In-right s registers gates (number_in gates r.0 s r.1)) refl
         (let P : ℕ → Type 0 = λ x. Stands drivers x (output_terminal ps s) in subst P place stands)
 
     good_held : (a : ℕ) → a < held_count m → Good (signal.Node a)
@@ -262,23 +264,24 @@ module _ (m : Machine) (checked : IsChecked m) (g : Graph) (sub : IsSubjectGraph
           subst P e (good_register (a - length (inputs m)) r.0 r.1)
     ]
 
-    pub good_marked : (a : ℕ) → bit marks a ≡ true → Good (signal.Node a)
-    good_marked a marked = elim (cases_lt a (held_count m)) [
+    -- the node of a gate
+    pub good_node : (a : ℕ) (x : Gate) → gate_of_node gs a ≡ Some x → Good (signal.Node a)
+    good_node a x is = elim (cases_lt a (held_count m)) [
       | inl low ↦ good_held a low
       | inr high ↦
-          let many = reached.many in
-          let inside = bit_within marks a marked in
-          let r = at_number g.nodes (a - held_count m) (omega (arith, high, many, inside)) in
           let e : held_count m + (a - held_count m) ≡ a = omega (arith, high) in
-          let P : ℕ → Type 0 = λ x. Good (signal.Node x) in
-          let Q : ℕ → Type 0 = λ x. bit marks x ≡ true in
-          subst P e (good_gate (a - held_count m) r.0 r.1 (subst Q (sym e) marked))
+          let P : ℕ → Type 0 = λ y. Good (signal.Node y) in
+          subst P e (good_gate (a - held_count m) x (dropped (held_count m) gs (a - held_count m) a x (sym e) is))
     ]
 
-    -- ---- each terminal's signal
+    -- what a gate or a root reads
+    pub good_read : (a : ℕ) → 0 < uses gs (root_numbers g) a → Good (signal.Node a)
+    good_read a h = elim (cov.cover.closed a h) [ inl low ↦ good_held a low | inr r ↦ good_node a r.0 r.1 ]
 
-    marked : (a : ℕ) → IsReached (held_count m) g a → bit marks a ≡ true
-    marked a h = (reached.each a).1 h
+    pub good_root : (a : ℕ) → 0 < times a (root_numbers g) → Good (signal.Node a)
+    good_root a h = good_read a (omega (arith, h))
+
+    -- ---- each terminal's signal
 
     good_port : (s : Signal) → IsPortSignal m.clock g.outputs 0 0 (inputs m) (outputs m) s → Good s
     good_port s (of_clock name is e) = let r = clock_some m.clock name is in subst Good (sym e) (good_clock r.0 r.1)
@@ -289,14 +292,23 @@ module _ (m : Machine) (checked : IsChecked m) (g : Graph) (sub : IsSubjectGraph
         let low = number_below (outputs m) k name h in
         let count = sub.apart.count in
         let root : In (get_or g.outputs (0 + k) 0) g.outputs = In-at g.outputs (0 + k) 0 (omega (arith, low, count)) in
-        subst Good (sym e) (good_marked (get_or g.outputs (0 + k) 0) (marked (get_or g.outputs (0 + k) 0) (shown root)))
+        let both = times_append (get_or g.outputs (0 + k) 0) g.outputs g.loads in
+        let some = in_times (get_or g.outputs (0 + k) 0) g.outputs root in
+        subst Good (sym e) (good_root (get_or g.outputs (0 + k) 0) (omega (arith, both, some)))
 
-    good_tied : (s : Spot) (k : Tie) → Good (signal.Node s.shown) → Good s.first → Good s.second → Good (tied_signal s k)
-    good_tied s tie.High a b c = good_high
-    good_tied s tie.Low a b c = good_low
-    good_tied s tie.Shown a b c = a
-    good_tied s tie.First a b c = b
-    good_tied s tie.Second a b c = c
+    abbrev AllGood : List Signal → Type 0
+    AllGood us = (u : Signal) → In u us → Good u
+
+    good_place : (us : List Signal) (place : ℕ) → AllGood us → Good (get_or us place signal.Low)
+    good_place [] place all = good_low
+    good_place (u ∷ us) zero all = all u here
+    good_place (u ∷ us) (suc place) all = good_place us place (λ v h. all v (there h))
+
+    good_tied : (s : Spot) (k : Tie) → Good (signal.Node s.shown) → AllGood s.reads → Good (tied_signal s k)
+    good_tied s tie.High a all = good_high
+    good_tied s tie.Low a all = good_low
+    good_tied s tie.Shown a all = a
+    good_tied s (tie.Read place) a all = good_place s.reads place all
 
     -- a register reads what it loads, and the clock
     pub has_clock : 0 < length m.registers → (name : Name) × (m.clock ≡ Some name)
@@ -306,7 +318,15 @@ module _ (m : Machine) (checked : IsChecked m) (g : Graph) (sub : IsSubjectGraph
       by (Some name) e = (name, e)
 
     good_load : (load : ℕ) → In load g.loads → Good (signal.Node load)
-    good_load load h = good_marked load (marked load (loaded h))
+    good_load load h =
+        let both = times_append load g.outputs g.loads in
+        let some = in_times load g.loads h in
+        good_root load (omega (arith, both, some))
+
+    register_reads : (load : ℕ) → In load g.loads → (name : Name) → m.clock ≡ Some name → AllGood (signal.Node load ∷ signal.Clock ∷ [])
+    register_reads load h name is u here = good_load load h
+    register_reads load h name is u (there here) = good_clock name is
+    register_reads load h name is u (there (there none)) = elim none [ ]
 
     register_tied : (k load : ℕ) (t : Tie) → IsNumber g.loads k load → Good (tied_signal (register_spot (length (inputs m)) (0 + k) load) t)
     register_tied k load t h =
@@ -316,31 +336,20 @@ module _ (m : Machine) (checked : IsChecked m) (g : Graph) (sub : IsSubjectGraph
         let n : length (inputs m) + k ≡ length (inputs m) + (0 + k) = omega arith in
         good_tied (register_spot (length (inputs m)) (0 + k) load) t
         (let P : ℕ → Type 0 = λ x. Good (signal.Node x) in subst P n (good_register k load h))
-        (good_load load (number_in g.loads k load h)) (good_clock clock.0 clock.1)
+        (register_reads load (number_in g.loads k load h) clock.0 clock.1)
 
-    -- a gate reads its sons
-    good_son : (i : ℕ) (one : Node) (a : ℕ) → IsNumber g.nodes i one → bit marks (held_count m + i) ≡ true → reads one a ≡ true → Good (signal.Node a)
-    good_son i one a h is reads_it = good_marked a (marked a (read i one ((reached.each (held_count m + i)).0 is) h reads_it))
+    -- a gate reads its leaves
+    gate_reads : (a : ℕ) (x : Gate) → gate_of_node gs a ≡ Some x → AllGood (map (λ y. signal.Node y) x.leaves.items)
+    gate_reads a x is u h =
+        let r = In-map_back (λ y. signal.Node y) u x.leaves.items h in
+        let here_is = used_some r.0 gs a x is in
+        let some = in_times r.0 x.leaves.items r.1 in
+        subst Good r.2 (good_read r.0 (omega (arith, here_is, some)))
 
-    first_or : (a b : ℕ) → ((a == a) || (b == a)) ≡ true
-    first_or a b = ap (λ (x : Bool). x || (b == a)) (eq-eqb a a refl)
-
-    second_or : (a b : ℕ) → ((a == b) || (b == b)) ≡ true
-    second_or a b = by (a == b) where
-      by : (x : Bool) → (x || (b == b)) ≡ true
-      by true = refl
-      by false = eq-eqb b b refl
-
-    gate_tied : (j i : ℕ) (one : Node) (t : Tie) → IsNumber g.nodes i one → bit marks (held_count m + i) ≡ true
-        → Good (tied_signal (gate_spot (0 + j) (held_count m + i) one) t)
-    gate_tied j i (fixed true) t h is = good_tied (gate_spot (0 + j) (held_count m + i) (fixed true)) t (good_gate i (fixed true) h is) good_low good_low
-    gate_tied j i (fixed false) t h is = good_tied (gate_spot (0 + j) (held_count m + i) (fixed false)) t (good_gate i (fixed false) h is) good_low good_low
-    gate_tied j i (inv a) t h is =
-        let son = good_son i (inv a) a h is (eq-eqb a a refl) in
-        good_tied (gate_spot (0 + j) (held_count m + i) (inv a)) t (good_gate i (inv a) h is) son son
-    gate_tied j i (nand a b) t h is =
-        good_tied (gate_spot (0 + j) (held_count m + i) (nand a b)) t (good_gate i (nand a b) h is)
-        (good_son i (nand a b) a h is (first_or a b)) (good_son i (nand a b) b h is (second_or a b))
+    gate_tied : (j i : ℕ) (x : Gate) (t : Tie) → IsNumber (node_gates m gs) i (Some x) → Good (tied_signal (gate_spot (0 + j) (held_count m + i) x) t)
+    gate_tied j i x t h =
+        good_tied (gate_spot (0 + j) (held_count m + i) x) t (good_gate i x h)
+        (gate_reads (held_count m + i) x (undropped (held_count m) gs i (held_count m + i) x refl h))
 
     spot_tied : (s : Spot) (t : Tie) → In s spots → Good (tied_signal s t)
     spot_tied s t h = elim (In-split s registers gates h) [
@@ -350,8 +359,8 @@ module _ (m : Machine) (checked : IsChecked m) (g : Graph) (sub : IsSubjectGraph
           subst (λ (u : Spot). Good (tied_signal u t)) (sym r.2) (register_tied n.0 r.0 t r.1)
       | inr b ↦
           let n = number_of s gates b in
-          let r = gate_at marks (held_count m) 0 g.nodes n.0 s n.1 in
-          subst (λ (u : Spot). Good (tied_signal u t)) (sym r.4) (gate_tied n.0 r.0 r.1 t r.2 r.3)
+          let r = gate_at (held_count m) 0 (node_gates m gs) n.0 s n.1 in
+          subst (λ (u : Spot). Good (tied_signal u t)) (sym r.3) (gate_tied n.0 r.0 r.1 t r.2)
     ]
 
     pub driven : (t : Terminal × Signal) → In t told → Good t.1
@@ -365,7 +374,7 @@ module _ (m : Machine) (checked : IsChecked m) (g : Graph) (sub : IsSubjectGraph
           ])
       | inr b ↦
           let r = flat_in (spot_signals ps) t spots b in
-          let s = signal_tied r.0 (part_of ps r.0.kind).ties.items t r.2 in
+          let s = signal_tied r.0 (part_of ps r.0.role).ties.items t r.2 in
           subst Good (sym s.1) (spot_tied r.0 s.0 r.1)
     ]
 
@@ -375,8 +384,8 @@ module _ (m : Machine) (checked : IsChecked m) (g : Graph) (sub : IsSubjectGraph
   spots_pins [] = refl
   spots_pins (s ∷ ss) =
       map-append told_terminal (spot_signals ps s) (flat_map (spot_signals ps) ss)
-      ∙ ap (λ (ts : List Terminal). ts ++ map told_terminal (flat_map (spot_signals ps) ss)) (pins_are (cell_for s.kind) (part_of ps s.kind) s (is_part s.kind))
-      ∙ ap (λ (ts : List Terminal). map (pin_of s.name) (part_of ps s.kind).pins ++ ts) (spots_pins ss)
+      ∙ ap (λ (ts : List Terminal). ts ++ map told_terminal (flat_map (spot_signals ps) ss)) (pins_are (cell_for s.role) (part_of ps s.role) s (is_part s.role))
+      ∙ ap (λ (ts : List Terminal). map (pin_of s.name) (part_of ps s.role).pins ++ ts) (spots_pins ss)
 
   pub terminals_told : terminals_of ports (map (instance_of ps) spots) ≡ map (λ (t : Terminal × Signal). t.0) told
   terminals_told =

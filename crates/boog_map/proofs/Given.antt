@@ -1,6 +1,6 @@
 -- What mapping gives.
-use Rattle.std.proofs.Common.{◌≡◌, ◌↔◌, ℕ, zero, suc, ◌+◌, ◌^◌, ◌<◌, Bool, true, false, ◌&&◌, List, [], ◌∷◌, length, map, refl, sym, ◌∙◌, ap, subst, arith, Option, None, Some, length-append, if◌then◌else◌}
-use Rattle.std.specs.Prelude.{IsTrue, IfOk, Result, Ok, Err}
+use Rattle.std.proofs.Common.{◌≡◌, ◌↔◌, ℕ, zero, suc, ◌+◌, ◌*◌, ◌^◌, ◌<◌, ◌≤◌, Bool, true, false, ◌&&◌, List, [], ◌∷◌, length, map, filter, refl, sym, ◌∙◌, ap, subst, arith, Option, None, Some, length-append, if◌then◌else◌}
+use Rattle.std.specs.Prelude.{IsTrue, IfOk, Result, Ok, Err, sum_by}
 use Rattle.vlsi_base.specs.declared.name.Name.{Name}
 use Rattle.vlsi_base.specs.declared.name.Port.{Port}
 use Rattle.vlsi_base.specs.declared.name.Terminal.{Terminal}
@@ -20,27 +20,34 @@ use Rattle.net_core.specs.Joins.{Joined, IsFinished}
 use Rattle.net_core.proofs.Frames.{unmapped}
 use Rattle.net_core.proofs.Finishing.{netlist_terminals_once}
 use Rattle.net_meaning.specs.Netlist.{AbstractNetlist}
-use Rattle.net_theory.proofs.Basics.{length-map}
+use Rattle.net_theory.specs.Sources.{IsNumber}
+use Rattle.net_theory.proofs.Basics.{length-map, listed, length-listed, bit-listed}
 use Rattle.net_right.specs.View.{IsSeenAs, netlist_by}
 use Rattle.net_right.specs.Right.{IsRightNetlist, HasPinsOfCells}
+use Rattle.cell_match.specs.declared.gate.Gate.{Gate}
+use Rattle.boog_cover.specs.Covered.{IsCovered}
 use Rattle.graph_theory.specs.Graph.{Graph, held_count, graph_values, graph_roots}
 use Rattle.graph_theory.specs.Maps.{Maps}
 use Rattle.graph_theory.proofs.Values.{graph_means}
 use Rattle.graph_theory.proofs.Shown.{mapped_shows}
 use Rattle.graph_theory.proofs.Ordered.{mapped_is_lean, names, mapped_after}
 use Rattle.subject_graph.specs.Subject.{IsSubjectGraph}
-use Rattle.boog_map.specs.declared.part.Parts.{Parts}
+use Rattle.boog_map.specs.declared.choice.Parts.{Parts}
 use Rattle.boog_map.specs.declared.place.Signal.{Signal}
 use Rattle.boog_map.specs.declared.place.Spot.{Spot}
 use Rattle.boog_map.specs.declared.build.Sketch.{Sketch}
 use Rattle.boog_map.specs.Reached.{IsReached}
 use Rattle.boog_map.specs.Netlist.{has_registers, HasRoomForCells, StandsInOrder, HasOneCellAtMost, HasFewInputs, IsLeanFor, IsTightFor}
-use Rattle.boog_map.specs.Tied.{AreParts, kind_for}
+use Rattle.boog_map.specs.Tied.{AreParts, gate_words}
 use Rattle.boog_map.specs.Draft.{instance_of, register_spots, gate_spots, join_of, draft_by, IsDrawable}
-use Rattle.boog_map.specs.Mapped.{spots_of, IsSketch, IsMapped}
-use Rattle.boog_map.proofs.Spots.{register_count, behind_count, behind_length, behind_bit, marks_behind}
+use Rattle.boog_map.specs.Mapped.{root_numbers, node_gates, spots_of, IsSketch, IsMapped}
+use Rattle.boog_map.proofs.Dropped.{undropped, dropped_count}
+use Rattle.boog_map.proofs.Marks.{Marks, marks_of, needed_reached}
+use Rattle.boog_map.proofs.Roles.{AreRoles, roles}
+use Rattle.boog_map.proofs.Spots.{register_count, marked_count}
+use Rattle.boog_map.proofs.Carrying.{tight}
 use Rattle.boog_map.proofs.Driven.{told}
-use Rattle.boog_map.proofs.Drawable.{drawable, instances_are, signals_are, few_count}
+use Rattle.boog_map.proofs.Drawable.{drawable, instances_are, signals_are, few_count, few_pins}
 use Rattle.boog_map.proofs.Seating.{maps, found, sourced}
 
 -- ---- the class of each terminal
@@ -115,32 +122,33 @@ seen_by n sound = record {
 -- ---- the netlist
 
 module _ (m : Machine) (checked : IsChecked m) (g : Graph) (sub : IsSubjectGraph m g) (l : Library) (passed : HasPassed false l) (room : HasRoomForCells m)
-    (ps : Parts) (parts : AreParts l.cells (has_registers m) ps) (k : Sketch) (sk : IsSketch m g ps k) where
+    (ps : Parts) (parts : AreRoles l.cells (has_registers m) ps) (gs : List (Option Gate))
+    (cov : IsCovered (gate_words ps) (held_count m) g.nodes (root_numbers g) gs) (k : Sketch) (sk : IsSketch m g ps gs k) where
   pub can_draw : IsDrawable (with_supply vss (with_supply vdd m.ports)) k
-  can_draw = drawable m checked g sub l passed ps parts sk.marks sk.reached k sk.parts sk.spots sk.drivers sk.ports room
+  can_draw = drawable m checked g sub l passed ps parts gs cov k sk.parts sk.spots sk.drivers sk.ports room
 
   module _ (n : InMemory) (finished : IsFinished (draft_by m.name (with_supply vss (with_supply vdd m.ports)) k) n) (sound : IsNetlist n) where
     abbrev spots : List Spot
-    spots = spots_of m g sk.marks
+    spots = spots_of m g gs
 
     instances_is : n.instances ≡ map (instance_of ps) spots
-    instances_is = finished.instances ∙ instances_are m checked g sub l passed ps parts sk.marks sk.reached k sk.parts sk.spots sk.drivers sk.ports
+    instances_is = finished.instances ∙ instances_are m checked g sub l passed ps parts gs cov k sk.parts sk.spots sk.drivers sk.ports
 
     joined : (a b : Terminal) (i j : ℕ) → HasClass n a i → HasClass n b j
-        → (i ≡ j) ↔ Joined (map (join_of k.drivers) (told m checked g sub l passed ps parts sk.marks sk.reached)) a b
+        → (i ≡ j) ↔ Joined (map (join_of k.drivers) (told m checked g sub l passed ps parts gs cov)) a b
     joined =
         subst (λ (ts : List (Terminal × Signal)). (a b : Terminal) (i j : ℕ) → HasClass n a i → HasClass n b j → (i ≡ j) ↔ Joined (map (join_of k.drivers) ts) a b)
-        (signals_are m checked g sub l passed ps parts sk.marks sk.reached k sk.parts sk.spots sk.drivers sk.ports) finished.classes
+        (signals_are m checked g sub l passed ps parts gs cov k sk.parts sk.spots sk.drivers sk.ports) finished.classes
 
     few : length spots < 2 ^ 32
-    few = few_count m checked g sub l passed ps parts sk.marks sk.reached room
+    few = few_count m checked g sub l passed ps parts gs cov room
 
     abbrev source_netlist : AbstractNetlist → Type 0
     source_netlist x = IsSeenAs n x
 
     maps_it : (x : AbstractNetlist) (seen : IsSeenAs n x)
-        → Maps (sourced m checked g sub l passed ps parts sk.marks sk.reached k.drivers sk.drivers n sound finished.ports instances_is joined x seen) l m g
-    maps_it x seen = maps m checked g sub l passed ps parts sk.marks sk.reached k.drivers sk.drivers n sound finished.ports instances_is joined x seen few
+        → Maps (sourced m checked g sub l passed ps parts gs cov k.drivers sk.drivers n sound finished.ports instances_is joined x seen) l m g
+    maps_it x seen = maps m checked g sub l passed ps parts gs cov k.drivers sk.drivers n sound finished.ports instances_is joined x seen few
 
     right : IsRightNetlist n l m
     right =
@@ -149,12 +157,12 @@ module _ (m : Machine) (checked : IsChecked m) (g : Graph) (sub : IsSubjectGraph
         record {
           name = finished.name;
           ports = finished.ports;
-          sourced = sourced m checked g sub l passed ps parts sk.marks sk.reached k.drivers sk.drivers n sound finished.ports instances_is joined x seen;
+          sourced = sourced m checked g sub l passed ps parts gs cov k.drivers sk.drivers n sound finished.ports instances_is joined x seen;
           seen = seen;
           values = graph_values g;
           roots = graph_roots g;
           shows =
-              mapped_shows (sourced m checked g sub l passed ps parts sk.marks sk.reached k.drivers sk.drivers n sound finished.ports instances_is joined x seen) l m g sub.apart
+              mapped_shows (sourced m checked g sub l passed ps parts gs cov k.drivers sk.drivers n sound finished.ports instances_is joined x seen) l m g sub.apart
               (maps_it x seen);
           means = graph_means m g sub.graph;
         }
@@ -169,15 +177,15 @@ module _ (m : Machine) (checked : IsChecked m) (g : Graph) (sub : IsSubjectGraph
     pins : HasPinsOfCells n l
     pins i c h is =
         let s = of_spot i h in
-        let cell : Some (parts.each s.0.kind).cell ≡ Some c =
-        sym (found m checked g sub l passed ps parts sk.marks sk.reached k.drivers sk.drivers n sound finished.ports instances_is joined s.0.kind)
+        let cell : Some (parts.each s.0.role).cell ≡ Some c =
+        sym (found m checked g sub l passed ps parts gs cov k.drivers sk.drivers n sound finished.ports instances_is joined s.0.role)
         ∙ ap (λ (x : Instance). cell_of l x.model) s.1 ∙ is in
-        let same : (parts.each s.0.kind).cell ≡ c = cc cell in
-        ap (λ (x : Instance). x.pins) (sym s.1) ∙ (parts.each s.0.kind).is_part.pins ∙ ap (λ (x : Cell). names_of (all_ports x)) same
+        let same : (parts.each s.0.role).cell ≡ c = cc cell in
+        ap (λ (x : Instance). x.pins) (sym s.1) ∙ (parts.each s.0.role).is_part.pins ∙ ap (λ (x : Cell). names_of (all_ports x)) same
 
     order : StandsInOrder n l m
     order x seen =
-        let z = sourced m checked g sub l passed ps parts sk.marks sk.reached k.drivers sk.drivers n sound finished.ports instances_is joined x seen in
+        let z = sourced m checked g sub l passed ps parts gs cov k.drivers sk.drivers n sound finished.ports instances_is joined x seen in
         let is = maps_it x seen in
         record {
           gates = length is.gates;
@@ -186,29 +194,47 @@ module _ (m : Machine) (checked : IsChecked m) (g : Graph) (sub : IsSubjectGraph
         }
 
     most : HasOneCellAtMost n m g
-    most = record {
-      reached = marks_behind sk.marks (held_count m) g.nodes;
-      many = behind_length sk.marks (held_count m) g.nodes;
-      each = λ j low.
-          subst (λ (b : Bool). IsTrue b ↔ IsReached (held_count m) g (held_count m + j)) (sym (behind_bit sk.marks (held_count m) g.nodes j low))
-          (sk.reached.each (held_count m + j));
-      count =
-          let a = ap length instances_is in
-          let b = length-map (instance_of ps) spots in
-          let c = length-append (register_spots (length (inputs m)) 0 g.loads) (gate_spots sk.marks (held_count m) 0 g.nodes) in
-          let d = register_count (length (inputs m)) 0 g.loads in
-          let e = sub.roots.each in
-          let f = behind_count sk.marks (held_count m) 0 g.nodes in
-          omega (arith, a, b, c, d, e, f);
-    }
+    most = by (marks_of (held_count m) g sub.graph.earlier) where
+      by : Marks (held_count m) g → HasOneCellAtMost n m g
+      by marks = record {
+        reached = listed (length g.nodes) (λ j. marks.marks (held_count m + j));
+        many = length-listed (length g.nodes) (λ j. marks.marks (held_count m + j));
+        each = λ j low.
+            subst (λ (b : Bool). IsTrue b ↔ IsReached (held_count m) g (held_count m + j)) (sym (bit-listed (length g.nodes) (λ i. marks.marks (held_count m + i)) j low))
+            (marks.each (held_count m + j));
+        count =
+            let a = ap length instances_is in
+            let b = length-map (instance_of ps) spots in
+            let c = length-append (register_spots (length (inputs m)) 0 g.loads) (gate_spots (held_count m) 0 (node_gates m gs)) in
+            let d = register_count (length (inputs m)) 0 g.loads in
+            let e = sub.roots.each in
+            let f = marked_count (held_count m) 0 (node_gates m gs) (λ j. marks.marks (held_count m + j)) marked in
+            let size = dropped_count (held_count m) (length g.nodes) gs cov.long in
+            let P : ℕ → Type 0 = λ x. length (gate_spots (held_count m) 0 (node_gates m gs)) ≤ length (filter (λ b. b) (listed x (λ j. marks.marks (held_count m + j)))) in
+            let h = subst P size f in
+            omega (arith, a, b, c, d, e, h);
+      } where
+        marked : (i : ℕ) (x : Gate) → IsNumber (node_gates m gs) i (Some x) → marks.marks (held_count m + i) ≡ true
+        marked i x h =
+            let at = undropped (held_count m) gs i (held_count m + i) x refl h in
+            (marks.each (held_count m + i)).1
+            (needed_reached (held_count m) g (held_count m + i) (cov.below (held_count m + i) (cov.needed (held_count m + i) x at)))
+
+    few_inputs : HasFewInputs n m g
+    few_inputs =
+        subst (λ (is : List Instance). sum_by (λ (i : Instance). length i.pins) is ≤ 3 * length is + 2 * (length m.registers + length g.nodes)) (sym instances_is)
+        (let sum = few_pins m checked g sub l passed ps parts gs cov in let size = length-map (instance_of ps) spots in omega (arith, sum, size))
+
+    tight_for : IsTightFor n l
+    tight_for x seen = tight m checked g sub l passed ps parts gs cov k.drivers sk.drivers n sound finished.ports instances_is joined x seen room
 
     lean : IsLeanFor n m
     lean x seen =
-        mapped_is_lean (sourced m checked g sub l passed ps parts sk.marks sk.reached k.drivers sk.drivers n sound finished.ports instances_is joined x seen) l m g
+        mapped_is_lean (sourced m checked g sub l passed ps parts gs cov k.drivers sk.drivers n sound finished.ports instances_is joined x seen) l m g
         (maps_it x seen) sub.small
 
     pub is_mapped : IsMapped n l m g
-    is_mapped = record { right = right; pins = pins; order = order; most = most; few = ?; lean = lean; tight = ?; sound = sound }
+    is_mapped = record { right = right; pins = pins; order = order; most = most; few = few_inputs; lean = lean; tight = tight_for; sound = sound }
 
 pub ok_both : {T E : Type 0} {P Q R : T → Type 0} (r : Result T E) → ((x : T) → P x → Q x → R x) → IfOk r P → IfOk r Q → IfOk r R
 ok_both (Ok x) f p q = f x p q
@@ -218,21 +244,21 @@ ok_both (Err e) f p q = tt
 pub of_library : (cells : List Cell) (l : Library) → library_of cells ≡ l → (P : List Cell → Type 0) → P l.cells → P cells
 of_library cells l is P h = subst P (sym (ap (λ (x : Library). x.cells) is)) h
 
-pub parts_of_library : (cells : List Cell) (l : Library) (m : Machine) (b : Bool) (ps : Parts) → library_of cells ≡ l → b ≡ has_registers m → AreParts cells b ps
-    → AreParts l.cells (has_registers m) ps
-parts_of_library cells l m b ps is same h =
-    subst (λ (cs : List Cell). AreParts cs (has_registers m) ps) (ap (λ (x : Library). x.cells) is) (subst (λ (r : Bool). AreParts cells r ps) same h)
+-- the roles of a library's cells
+pub roles_of_library : (cells : List Cell) (l : Library) (m : Machine) (b : Bool) (ps : Parts) → library_of cells ≡ l → b ≡ has_registers m
+    → AreParts (library_of cells) b ps → AreRoles l.cells (has_registers m) ps
+roles_of_library cells l m b ps is same h =
+    roles l (has_registers m) ps
+    (subst (λ (x : Library). AreParts x (has_registers m) ps) is (subst (λ (r : Bool). AreParts (library_of cells) r ps) same h))
 
--- the netlist of what was lent
-pub lent_draw : (m : Machine) → IsChecked m → (g : Graph) → IsSubjectGraph m g → (l : Library) → HasPassed false l → HasRoomForCells m
-    → (ps : Parts) → AreParts l.cells (has_registers m) ps → (k : Sketch) → IsSketch m g ps k → (ports : List Port) → ports ≡ with_supply vss (with_supply vdd m.ports)
-    → IsDrawable ports k
-lent_draw m checked g sub l passed room ps parts k sk ports is =
-    subst (λ (xs : List Port). IsDrawable xs k) (sym is) (can_draw m checked g sub l passed room ps parts k sk)
+module _ (m : Machine) (checked : IsChecked m) (g : Graph) (sub : IsSubjectGraph m g) (l : Library) (passed : HasPassed false l) (room : HasRoomForCells m) (ps : Parts)
+    (parts : AreRoles l.cells (has_registers m) ps) (gs : List (Option Gate)) (cov : IsCovered (gate_words ps) (held_count m) g.nodes (root_numbers g) gs)
+    (k : Sketch) (sk : IsSketch m g ps gs k) (ports : List Port) (is_ports : ports ≡ with_supply vss (with_supply vdd m.ports)) where
+  -- the netlist of what was lent
+  pub lent_draw : IsDrawable ports k
+  lent_draw = subst (λ (xs : List Port). IsDrawable xs k) (sym is_ports) (can_draw m checked g sub l passed room ps parts gs cov k sk)
 
-pub lent_mapped : (m : Machine) → IsChecked m → (g : Graph) → IsSubjectGraph m g → (l : Library) → HasPassed false l → HasRoomForCells m
-    → (ps : Parts) → AreParts l.cells (has_registers m) ps → (k : Sketch) → IsSketch m g ps k → (name : List ℕ) (ports : List Port) → name ≡ m.name
-    → ports ≡ with_supply vss (with_supply vdd m.ports) → (n : InMemory) → IsFinished (draft_by name ports k) n → IsNetlist n → IsMapped n l m g
-lent_mapped m checked g sub l passed room ps parts k sk name ports is_name is_ports n finished sound =
-    is_mapped m checked g sub l passed room ps parts k sk n
-    (subst (λ (xs : List Port). IsFinished (draft_by m.name xs k) n) is_ports (subst (λ (t : List ℕ). IsFinished (draft_by t ports k) n) is_name finished)) sound
+  pub lent_mapped : (name : List ℕ) → name ≡ m.name → (n : InMemory) → IsFinished (draft_by name ports k) n → IsNetlist n → IsMapped n l m g
+  lent_mapped name is_name n finished sound =
+      is_mapped m checked g sub l passed room ps parts gs cov k sk n
+      (subst (λ (xs : List Port). IsFinished (draft_by m.name xs k) n) is_ports (subst (λ (t : List ℕ). IsFinished (draft_by t ports k) n) is_name finished)) sound

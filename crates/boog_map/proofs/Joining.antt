@@ -9,7 +9,7 @@ use Rattle.net_core.specs.Places.{IsThere}
 use Rattle.net_core.specs.Netlist.{pin_of}
 use Rattle.net_core.specs.Joins.{Draft, draft_terminals}
 use Rattle.net_theory.proofs.Basics.{In-map}
-use Rattle.boog_map.specs.declared.part.Parts.{Parts}
+use Rattle.boog_map.specs.declared.choice.Parts.{Parts}
 use Rattle.boog_map.specs.declared.part.TiedPin.{TiedPin}
 use Rattle.boog_map.specs.declared.place.Signal.{Signal}
 use Rattle.boog_map.specs.declared.place.Spot.{Spot}
@@ -30,10 +30,10 @@ lent_one b now more d f xs i x can so_far low is =
     subst (λ (ts : List Terminal). Lent ts d (f x).0 (f x).1) (sym (ap draft_terminals so_far)) (can (f x) (In-map f x xs (in_get xs i x low is)))
 
 pub lent_pin : (b now : Draft) (d : Drivers) (ps : Parts) (s : Spot) (i : ℕ) (p : TiedPin) (ties : List TiedPin) → CanJoin (draft_terminals b) d (spot_signals ps s)
-    → now ≡ with_joins b (map (join_of d) (pin_signals s (take i (part_of ps s.kind).ties.items))) → ties ≡ (part_of ps s.kind).ties.items → i < length ties → p ≡ get_or ties i p
+    → now ≡ with_joins b (map (join_of d) (pin_signals s (take i (part_of ps s.role).ties.items))) → ties ≡ (part_of ps s.role).ties.items → i < length ties → p ≡ get_or ties i p
     → Lent (draft_terminals now) d (pin_of s.name p.name) (tied_signal s p.tie)
 lent_pin b now d ps s i p ties can so_far same low is =
-    lent_one b now (map (join_of d) (pin_signals s (take i (part_of ps s.kind).ties.items))) d (λ (q : TiedPin). (pin_of s.name q.name, tied_signal s q.tie)) (part_of ps s.kind).ties.items i p can
+    lent_one b now (map (join_of d) (pin_signals s (take i (part_of ps s.role).ties.items))) d (λ (q : TiedPin). (pin_of s.name q.name, tied_signal s q.tie)) (part_of ps s.role).ties.items i p can
     so_far (subst (λ (xs : List TiedPin). i < length xs) same low) (subst (λ (xs : List TiedPin). p ≡ get_or xs i p) same is)
 
 In-flat : {A B : Type 0} (g : A → List B) (x : A) (xs : List A) (y : B) → In x xs → In y (g x) → In y (flat_map g xs)

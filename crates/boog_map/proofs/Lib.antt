@@ -1,6 +1,8 @@
 pub mod Lists
-pub mod Marking
-pub mod Reaching
+pub mod Marks
+pub mod Dropped
+pub mod Roles
+pub mod PartsAt
 pub mod Classes
 pub mod Supplied
 pub mod PortSignals
@@ -11,6 +13,7 @@ pub mod Driven
 pub mod Rooms
 pub mod Drawable
 pub mod Seating
+pub mod Carrying
 pub mod Steps
 pub mod Placing
 pub mod Building

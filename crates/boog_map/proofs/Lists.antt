@@ -1,5 +1,5 @@
 -- Places of a list's elements.
-use Rattle.std.proofs.Common.{◌≡◌, ℕ, zero, suc, ◌+◌, ◌<◌, List, [], ◌∷◌, ◌++◌, length, Some, refl, sym, ap, ◌∙◌, get_or, drop, drop-cons, add-one}
+use Rattle.std.proofs.Common.{◌≡◌, ℕ, zero, suc, ◌+◌, ◌<◌, ◌≤◌, List, [], ◌∷◌, ◌++◌, length, map, take, Some, refl, sym, ap, ◌∙◌, arith, get_or, drop, drop-cons, add-one}
 use Rattle.std.proofs.lemmas.Option.{slice_get_within, get_or_from_slice_get}
 use Rattle.vlsi_base.specs.Member.{In, here, there}
 use Rattle.net_core.specs.Places.{Stands, IsThere}
@@ -46,3 +46,30 @@ in_middle y (z ∷ xs) ys = there (in_middle y xs ys)
 -- what is left from an element on
 pub drop_next : {A : Type 0} (xs : List A) (i : ℕ) (x : A) → i < length xs → x ≡ get_or xs i x → drop i xs ≡ x ∷ drop (i + 1) xs
 drop_next {A} xs i x low is = drop-cons xs i x low ∙ ap (λ (y : A). y ∷ drop (suc i) xs) (sym is) ∙ ap (λ (j : ℕ). x ∷ drop j xs) (sym (add-one i))
+
+-- two lists that are mapped to one
+pub mapped_same : {A B C : Type 0} (f : A → C) (h : B → C) (xs : List A) (ys : List B) → length xs ≡ length ys
+    → ((k : ℕ) (x : A) (y : B) → IsNumber xs k x → IsNumber ys k y → f x ≡ h y) → map f xs ≡ map h ys
+mapped_same f h [] [] size each = refl
+mapped_same f h [] (y ∷ ys) size each = absurd (omega (arith, size))
+mapped_same f h (x ∷ xs) [] size each = absurd (omega (arith, size))
+mapped_same {A} {B} {C} f h (x ∷ xs) (y ∷ ys) size each =
+    ap (λ (z : C). z ∷ map f xs) (each 0 x y refl refl)
+    ∙ ap (λ (zs : List C). h y ∷ zs) (mapped_same f h xs ys (omega (arith, size)) (λ k a b p q. each (suc k) a b p q))
+
+pub mapped_number : {A B : Type 0} (f : A → B) (xs : List A) (k : ℕ) (x : A) → IsNumber xs k x → IsNumber (map f xs) k (f x)
+mapped_number f [] k x h = absurd h
+mapped_number f (y ∷ xs) zero x h = ap f h
+mapped_number f (y ∷ xs) (suc k) x h = mapped_number f xs k x h
+
+pub take_all : {A : Type 0} (xs : List A) (i : ℕ) → length xs ≤ i → take i xs ≡ xs
+take_all [] zero h = refl
+take_all [] (suc i) h = refl
+take_all (x ∷ xs) zero h = absurd (omega (arith, h))
+take_all {A} (x ∷ xs) (suc i) h = ap (λ (ys : List A). x ∷ ys) (take_all xs i (omega (arith, h)))
+
+-- what is read where an element stands doesn't hang on what is read elsewhere
+pub read_same : {A : Type 0} (xs : List A) (i : ℕ) (d e : A) → i < length xs → get_or xs i d ≡ get_or xs i e
+read_same [] i d e low = absurd (omega (arith, low))
+read_same (x ∷ xs) zero d e low = refl
+read_same (x ∷ xs) (suc i) d e low = read_same xs i d e (omega (arith, low))

@@ -1,5 +1,5 @@
 -- The plan of a machine's instances.
-use Rattle.std.proofs.Common.{◌≡◌, ℕ, zero, suc, Bool, List, [], ◌∷◌, ◌++◌, length, map, take, refl, ◌∙◌, ap, arith, length-append, append_assoc}
+use Rattle.std.proofs.Common.{◌≡◌, ℕ, zero, suc, List, [], ◌∷◌, ◌++◌, length, map, take, Option, refl, ◌∙◌, ap, arith, length-append, append_assoc}
 use Rattle.vlsi_base.specs.declared.name.Name.{Name}
 use Rattle.vlsi_base.specs.declared.name.Terminal.{Terminal}
 use Rattle.machine_core.specs.Machine.{Machine, inputs, register_names}
@@ -7,12 +7,13 @@ use Rattle.machine_core.specs.Checked.{IsChecked}
 use Rattle.machine_core.specs.Order.{equation_names}
 use Rattle.net_core.specs.Netlist.{port}
 use Rattle.net_theory.proofs.Basics.{length-map}
-use Rattle.graph_theory.specs.Graph.{Node, Graph, held_count}
+use Rattle.graph_theory.specs.Graph.{Graph, held_count}
+use Rattle.cell_match.specs.declared.gate.Gate.{Gate}
 use Rattle.subject_graph.specs.Subject.{IsSubjectGraph}
-use Rattle.boog_map.specs.declared.part.Parts.{Parts}
+use Rattle.boog_map.specs.declared.choice.Parts.{Parts}
 use Rattle.boog_map.specs.declared.place.Spot.{Spot}
 use Rattle.boog_map.specs.Draft.{output_terminal, register_spots, gate_spots, gate_drivers}
-use Rattle.boog_map.specs.Mapped.{spots_of, drivers_of}
+use Rattle.boog_map.specs.Mapped.{node_gates, spots_of, drivers_of}
 use Rattle.boog_map.proofs.Spots.{register_count}
 
 take_front : {A : Type 0} (xs ys : List A) (n : ℕ) → n ≡ length xs → take n (xs ++ ys) ≡ xs
@@ -26,8 +27,8 @@ pub inputs_first : (m : Machine) (names : List Name) (n : ℕ) → IsChecked m �
 inputs_first m names n checked is count =
     ap (take n) (is ∙ checked.ordered.vars ∙ append_assoc (inputs m) (register_names m) (equation_names m)) ∙ take_front (inputs m) (register_names m ++ equation_names m) n count
 
-module _ (m : Machine) (g : Graph) (sub : IsSubjectGraph m g) (ps : Parts) (marks : List Bool) (s0 s1 s2 : List Spot) (d0 d1 d2 : List Terminal) (loads : List ℕ)
-    (nodes : List Node) (no_spots : s0 ≡ []) (ports_first : d0 ≡ map port (inputs m)) (is_loads : loads ≡ g.loads) (is_nodes : nodes ≡ g.nodes)
+module _ (m : Machine) (g : Graph) (sub : IsSubjectGraph m g) (ps : Parts) (gs : List (Option Gate)) (s0 s1 s2 : List Spot) (d0 d1 d2 : List Terminal) (loads : List ℕ)
+    (some : List (Option Gate)) (no_spots : s0 ≡ []) (ports_first : d0 ≡ map port (inputs m)) (is_loads : loads ≡ g.loads) (is_some : some ≡ node_gates m gs)
     (spots_1 : s1 ≡ s0 ++ register_spots (length d0) 0 loads) (drivers_1 : d1 ≡ d0 ++ map (output_terminal ps) (register_spots (length d0) 0 loads)) where
   first_count : length d0 ≡ length (inputs m)
   first_count = ap length ports_first ∙ length-map port (inputs m)
@@ -46,22 +47,22 @@ module _ (m : Machine) (g : Graph) (sub : IsSubjectGraph m g) (ps : Parts) (mark
       let h = first_count in
       omega (arith, a, b, c, d, e, f, h)
 
-  gates_are : gate_spots marks (length d1) 0 nodes ≡ gate_spots marks (held_count m) 0 g.nodes
-  gates_are = ap (λ (n : ℕ). gate_spots marks n 0 nodes) held_drivers ∙ ap (gate_spots marks (held_count m) 0) is_nodes
+  gates_are : gate_spots (length d1) 0 some ≡ gate_spots (held_count m) 0 (node_gates m gs)
+  gates_are = ap (λ (n : ℕ). gate_spots n 0 some) held_drivers ∙ ap (gate_spots (held_count m) 0) is_some
 
-  gate_drivers_are : gate_drivers ps marks (length d1) 0 nodes ≡ gate_drivers ps marks (held_count m) 0 g.nodes
-  gate_drivers_are = ap (λ (n : ℕ). gate_drivers ps marks n 0 nodes) held_drivers ∙ ap (gate_drivers ps marks (held_count m) 0) is_nodes
+  gate_drivers_are : gate_drivers ps (length d1) 0 some ≡ gate_drivers ps (held_count m) 0 (node_gates m gs)
+  gate_drivers_are = ap (λ (n : ℕ). gate_drivers ps n 0 some) held_drivers ∙ ap (gate_drivers ps (held_count m) 0) is_some
 
-  pub spots_are : s2 ≡ s1 ++ gate_spots marks (length d1) 0 nodes → s2 ≡ spots_of m g marks
+  pub spots_are : s2 ≡ s1 ++ gate_spots (length d1) 0 some → s2 ≡ spots_of m g gs
   spots_are spots_2 =
       spots_2 ∙ ap (λ (xs : List Spot). s1 ++ xs) gates_are
-      ∙ ap (λ (xs : List Spot). xs ++ gate_spots marks (held_count m) 0 g.nodes)
+      ∙ ap (λ (xs : List Spot). xs ++ gate_spots (held_count m) 0 (node_gates m gs))
       (spots_1 ∙ ap (λ (xs : List Spot). xs ++ register_spots (length d0) 0 loads) no_spots ∙ registers_are)
 
-  pub drivers_are : d2 ≡ d1 ++ gate_drivers ps marks (length d1) 0 nodes → d2 ≡ drivers_of m g ps marks
+  pub drivers_are : d2 ≡ d1 ++ gate_drivers ps (length d1) 0 some → d2 ≡ drivers_of m g ps gs
   drivers_are drivers_2 =
       drivers_2 ∙ ap (λ (xs : List Terminal). d1 ++ xs) gate_drivers_are
-      ∙ ap (λ (xs : List Terminal). xs ++ gate_drivers ps marks (held_count m) 0 g.nodes)
+      ∙ ap (λ (xs : List Terminal). xs ++ gate_drivers ps (held_count m) 0 (node_gates m gs))
       (drivers_1 ∙ ap (λ (xs : List Spot). d0 ++ map (output_terminal ps) xs) registers_are)
-      ∙ append_assoc d0 (map (output_terminal ps) (register_spots (length (inputs m)) 0 g.loads)) (gate_drivers ps marks (held_count m) 0 g.nodes)
-      ∙ ap (λ (xs : List Terminal). xs ++ (map (output_terminal ps) (register_spots (length (inputs m)) 0 g.loads) ++ gate_drivers ps marks (held_count m) 0 g.nodes)) ports_first
+      ∙ append_assoc d0 (map (output_terminal ps) (register_spots (length (inputs m)) 0 g.loads)) (gate_drivers ps (held_count m) 0 (node_gates m gs))
+      ∙ ap (λ (xs : List Terminal). xs ++ (map (output_terminal ps) (register_spots (length (inputs m)) 0 g.loads) ++ gate_drivers ps (held_count m) 0 (node_gates m gs))) ports_first

@@ -1,5 +1,5 @@
 -- The netlist of a mapped machine maps its graph.
-use Rattle.std.proofs.Common.{◌≡◌, ◌≢◌, ◌⊎◌, inl, inr, ◌↔◌, ℕ, suc, ◌+◌, ◌^◌, ◌<◌, ◌==◌, Bool, true, false, not, List, [], ◌∷◌, ◌++◌, length, map, filter, refl, sym, ◌∙◌, ap, subst, arith, Some, get_or, length-append, if◌then◌else◌}
+use Rattle.std.proofs.Common.{◌≡◌, ◌≢◌, ◌⊎◌, inl, inr, ◌↔◌, ℕ, suc, ◌+◌, ◌^◌, ◌<◌, ◌==◌, Bool, true, false, not, List, [], ◌∷◌, ◌++◌, length, map, Option, refl, sym, ◌∙◌, ap, subst, arith, Some, get_or, length-append, if◌then◌else◌}
 use Rattle.std.specs.Prelude.{AllPairs}
 use Rattle.std.specs.List.{flat_map}
 use Rattle.std.proofs.lemmas.Bool.{eqb-true}
@@ -8,22 +8,19 @@ use Rattle.vlsi_base.specs.declared.name.Name.{Name}
 use Rattle.vlsi_base.specs.declared.name.Port.{Port}
 use Rattle.vlsi_base.specs.declared.name.Terminal.{Terminal}
 use Rattle.vlsi_base.specs.Names.{vdd, vss}
-use Rattle.vlsi_base.specs.Member.{In, here, there, AllDifferent}
+use Rattle.vlsi_base.specs.Member.{In, here, there}
 use Rattle.bool_expr.specs.Expression.{Expression}
-use Rattle.machine_core.specs.Machine.{Machine, inputs, is_input, names_of}
+use Rattle.machine_core.specs.Machine.{Machine, inputs, names_of}
 use Rattle.machine_core.specs.Checked.{IsChecked}
-use Rattle.vlsi_base.specs.declared.kind.Kind.{Kind}
-use Rattle.vlsi_base.specs.declared.kind.Kind.TheVariants as kind
-use Rattle.cell_model.specs.Cell.{Function, gate, flip_flop, Cell, pin_ports, cell_inputs}
-use Rattle.cell_model.specs.Library.{Library, cell_of, cell_named, IsPlain}
+use Rattle.cell_model.specs.Cell.{gate, Cell, pin_ports, cell_inputs}
+use Rattle.cell_model.specs.Library.{Library, cell_of, cell_named}
 use Rattle.cell_model.specs.Usable.{IsFormed}
-use Rattle.cell_model.specs.Covering.{HasKind, IsGateOf}
 use Rattle.cell_model.proofs.Members.{In-left, In-right}
 use Rattle.cell_model.proofs.Texts.{text_itself, text_differs}
 use Rattle.sym_shapes.specs.Shape.{connector_names}
 use Rattle.cell_checks.specs.Checked.{IsChecked as HasPassed}
 use Rattle.cell_pins.specs.Pins.{with_supply, all_ports}
-use Rattle.cell_pins.proofs.Ports.{sorted_of, sorted_filter, sorted_different}
+use Rattle.cell_pins.proofs.Ports.{sorted_of}
 use Rattle.net_core.specs.Places.{IsThere}
 use Rattle.net_core.specs.Netlist.{Netlist as InMemory, IsNetlist, port, pin_of, terminals, terminals_of, pins_of, HasClass}
 use Rattle.net_core.specs.Joins.{Joined}
@@ -34,26 +31,32 @@ use Rattle.net_meaning.specs.Well.{gate_instance}
 use Rattle.net_theory.specs.Sources.{Source, node, IsNumber, Seat, Sourced, source_of, pin_sources, ComesFrom}
 use Rattle.net_theory.proofs.Basics.{In-map, In-map_back, length-map, number_below}
 use Rattle.net_right.specs.View.{IsSeenAs, member_of}
-use Rattle.graph_theory.specs.Graph.{Node, fixed, inv, nand, Graph, held_count}
-use Rattle.graph_theory.specs.Maps.{IsCut, IsPlaced, IsRegisterSeat, IsGateSeat, Maps, Computes}
-use Rattle.graph_theory.proofs.Values.{plain_is_cut}
+use Rattle.cell_match.specs.declared.gate.Gate.{Gate}
+use Rattle.boog_tight.proofs.Counting.{gate_there}
+use Rattle.boog_cover.specs.Covered.{IsCovered}
+use Rattle.boog_cover.proofs.Cycles.{covered_is_cut}
+use Rattle.graph_theory.specs.Graph.{Graph, held_count}
+use Rattle.graph_theory.specs.Maps.{IsPlaced, IsRegisterSeat, IsGateSeat, Maps}
 use Rattle.subject_graph.specs.Subject.{IsSubjectGraph}
 use Rattle.boog_map.specs.declared.part.TiedPin.{TiedPin}
-use Rattle.boog_map.specs.declared.part.Parts.{Parts}
+use Rattle.boog_map.specs.declared.choice.Role.{Role}
+use Rattle.boog_map.specs.declared.choice.Role.TheVariants as role
+use Rattle.boog_map.specs.declared.choice.Parts.{Parts}
 use Rattle.boog_map.specs.declared.place.Signal.{Signal}
 use Rattle.boog_map.specs.declared.place.Signal.TheVariants as signal
 use Rattle.boog_map.specs.declared.place.Spot.{Spot}
 use Rattle.boog_map.specs.declared.drivers.Drivers.{Drivers}
-use Rattle.boog_map.specs.Reached.{AreReached}
 use Rattle.boog_map.specs.Netlist.{has_registers}
-use Rattle.boog_map.specs.Tied.{part_of, first_of, tied_pin, AreParts, IsPart, kind_for}
-use Rattle.boog_map.specs.Draft.{instance_of, register_spot, register_spots, gate_spot, gate_spots, spot_signals, tied_signal, driver, join_of, source_of_signal, AreDrivers}
-use Rattle.boog_map.specs.Mapped.{spots_of, drivers_of}
-use Rattle.boog_map.proofs.Lists.{in_there, there_in, within, stands_number, number_stands, got}
+use Rattle.boog_map.specs.Tied.{part_of, gate_words, read_pins, tied_pin, IsPart}
+use Rattle.boog_map.specs.Draft.{instance_of, register_spot, register_spots, node_signals, gate_spot, gate_spots, output_terminal, spot_signals, tied_signal, driver, join_of, source_of_signal, AreDrivers}
+use Rattle.boog_map.specs.Mapped.{root_numbers, node_gates, spots_of, drivers_of}
+use Rattle.boog_map.proofs.Dropped.{undropped}
+use Rattle.boog_map.proofs.Roles.{AreRoles, flip_cell, gate_cell}
+use Rattle.boog_map.proofs.Lists.{in_there, there_in, within, stands_number, number_stands, got, mapped_same, mapped_number}
 use Rattle.boog_map.proofs.Classes.{sourced_by, source_told, class_told, one_class, class_origin}
-use Rattle.boog_map.proofs.Spots.{register_at, register_count, gate_at, rising, shown_is, named_is}
+use Rattle.boog_map.proofs.Spots.{register_at, register_count, gate_at, rising}
 use Rattle.boog_map.proofs.Supplied.{names}
-use Rattle.boog_map.proofs.Pins.{gate_of, flip_of, vdd_told, vss_told, output_source, no_inputs, one_input, two_inputs, data_source, clock_source}
+use Rattle.boog_map.proofs.Pins.{vdd_told, vss_told, output_told, gate_input_told, data_told, clock_told}
 use Rattle.boog_map.proofs.Driven.{Begins, sorted, apart, told, on_vdd, on_vss, on_clock, on_input, on_output, is_part, cell_in, formed, spot_told, driven, terminals_told}
 
 -- a cell of the library is found by its name
@@ -67,16 +70,9 @@ cell_found (d ∷ cells) differ c (there h) =
     ap (λ (b : Bool). if b then Some d else cell_named cells c.name) (text_differs d.name c.name apart)
     ∙ cell_found cells (λ i j x p q. differ (suc i) (suc j) x (omega (arith, p)) (omega (arith, q))) c h
 
--- of two inputs
-inputs_differ : (c : Cell) → IsFormed c → (x y : Name) → cell_inputs c ≡ x ∷ y ∷ [] → x ≢ y
-inputs_differ c ok x y is e =
-    let ordered = sorted_filter (λ p. is_input p.dir) (pin_ports c) (sorted_of (pin_ports c) ok.order) in
-    let all : AllDifferent (x ∷ y ∷ []) = subst (λ (xs : List Name). AllDifferent xs) is (sorted_different (filter (λ p. is_input p.dir) (pin_ports c)) ordered) in
-    all.0 (subst (λ (z : Name). In z (y ∷ [])) (sym e) here)
-
 -- an instance, and the node that it shows
 abbrev pub member_for : Parts → Spot → Member
-member_for ps s = record { name = s.name; model = (part_of ps s.kind).model }
+member_for ps s = record { name = s.name; model = (part_of ps s.role).model }
 
 abbrev pub seat : Parts → Spot → Seat
 seat ps s = record { member = member_for ps s; node = s.shown }
@@ -86,45 +82,45 @@ members_are ps [] = refl
 members_are ps (s ∷ ss) = ap (λ (xs : List Member). member_for ps s ∷ xs) (members_are ps ss)
 
 module _ (m : Machine) (checked : IsChecked m) (g : Graph) (sub : IsSubjectGraph m g) (l : Library) (passed : HasPassed false l) (ps : Parts)
-    (parts : AreParts l.cells (has_registers m) ps) (marks : List Bool) (reached : AreReached (held_count m) g marks) (d : Drivers)
-    (drv : AreDrivers m.clock (drivers_of m g ps marks) d) (n : InMemory) (sound : IsNetlist n)
-    (ports_is : n.ports ≡ with_supply vss (with_supply vdd m.ports)) (instances_is : n.instances ≡ map (instance_of ps) (spots_of m g marks))
+    (parts : AreRoles l.cells (has_registers m) ps) (gs : List (Option Gate)) (cov : IsCovered (gate_words ps) (held_count m) g.nodes (root_numbers g) gs)
+    (d : Drivers) (drv : AreDrivers m.clock (drivers_of m g ps gs) d) (n : InMemory) (sound : IsNetlist n)
+    (ports_is : n.ports ≡ with_supply vss (with_supply vdd m.ports)) (instances_is : n.instances ≡ map (instance_of ps) (spots_of m g gs))
     (joined : (a b : Terminal) (j k : ℕ) → HasClass n a j → HasClass n b k
-    → (j ≡ k) ↔ Joined (map (join_of d) (told m checked g sub l passed ps parts marks reached)) a b) where
+    → (j ≡ k) ↔ Joined (map (join_of d) (told m checked g sub l passed ps parts gs cov)) a b) where
   abbrev spots : List Spot
-  spots = spots_of m g marks
+  spots = spots_of m g gs
 
   abbrev registers : List Spot
   registers = register_spots (length (inputs m)) 0 g.loads
 
   abbrev gates : List Spot
-  gates = gate_spots marks (held_count m) 0 g.nodes
+  gates = gate_spots (held_count m) 0 (node_gates m gs)
 
   abbrev ports : List Port
   ports = with_supply vss (with_supply vdd m.ports)
 
-  abbrev cell_for : Kind → Cell
+  abbrev cell_for : Role → Cell
   cell_for k = (parts.each k).cell
 
   abbrev pub signals : List (Terminal × Signal)
-  signals = told m checked g sub l passed ps parts marks reached
+  signals = told m checked g sub l passed ps parts gs cov
 
   pub all : terminals n ≡ map (λ (t : Terminal × Signal). t.0) signals
   all =
       ap (λ (xs : List Port). terminals_of xs n.instances) ports_is ∙ ap (terminals_of ports) instances_is
-      ∙ terminals_told m checked g sub l passed ps parts marks reached
+      ∙ terminals_told m checked g sub l passed ps parts gs cov
 
   pub closed : (t : Terminal × Signal) → In t signals → In (driver d t.1, t.1) signals
-  closed t h = (driven m checked g sub l passed ps parts marks reached d drv t h).0
+  closed t h = (driven m checked g sub l passed ps parts gs cov d drv t h).0
 
-  the_part : (k : Kind) → IsPart (cell_for k) (part_of ps k)
-  the_part k = is_part m checked g sub l passed ps parts marks reached k
+  the_part : (k : Role) → IsPart (cell_for k) (part_of ps k)
+  the_part k = is_part m checked g sub l passed ps parts gs cov k
 
-  ok : (k : Kind) → IsFormed (cell_for k)
-  ok k = formed m checked g sub l passed ps parts marks reached k
+  ok : (k : Role) → IsFormed (cell_for k)
+  ok k = formed m checked g sub l passed ps parts gs cov k
 
-  pub found : (k : Kind) → cell_of l (part_of ps k).model ≡ Some (cell_for k)
-  found k = ap (cell_of l) (the_part k).model ∙ cell_found l.cells passed.names (cell_for k) (cell_in m checked g sub l passed ps parts marks reached k)
+  pub found : (k : Role) → cell_of l (part_of ps k).model ≡ Some (cell_for k)
+  found k = ap (cell_of l) (the_part k).model ∙ cell_found l.cells passed.names (cell_for k) (cell_in m checked g sub l passed ps parts gs cov k)
 
   -- ---- a netlist that it is seen as
 
@@ -135,26 +131,31 @@ module _ (m : Machine) (checked : IsChecked m) (g : Graph) (sub : IsSubjectGraph
     source_is : (t : Terminal) (s : Signal) → In (t, s) signals → source_of sourced t ≡ source_of_signal s
     source_is t s h = source_told n sound signals d all closed joined k seen t s h
 
-    pin_source : (s : Spot) → In s spots → (t : Terminal) (u : Signal) → In (t, u) (spot_signals ps s) → source_of sourced t ≡ source_of_signal u
-    pin_source s h t u i = source_is t u (spot_told m checked g sub l passed ps parts marks reached s (t, u) h i)
+    pub pin_source : (s : Spot) → In s spots → (t : Terminal) (u : Signal) → In (t, u) (spot_signals ps s) → source_of sourced t ≡ source_of_signal u
+    pin_source s h t u i = source_is t u (spot_told m checked g sub l passed ps parts gs cov s (t, u) h i)
 
-    ties_of : (s : Spot) → (part_of ps s.kind).ties.items ≡ map (tied_pin (first_of (cell_for s.kind))) (all_ports (cell_for s.kind))
-    ties_of s = (the_part s.kind).ties
+    pub ties_of : (s : Spot) → (part_of ps s.role).ties.items ≡ map (tied_pin (read_pins (cell_for s.role))) (all_ports (cell_for s.role))
+    ties_of s = (the_part s.role).ties
 
-    placed : (s : Spot) → In s spots → IsPlaced sourced l (seat ps s) (cell_for s.kind)
+    pub shows_spot : (s : Spot) → In (output_terminal ps s, signal.Node s.shown) (spot_signals ps s)
+    shows_spot s =
+        output_told (cell_for s.role) (ok s.role) (part_of ps s.role).ties.items (ties_of s) s (part_of ps s.role).output
+        (subst (λ (xs : List Name). In (part_of ps s.role).output xs) (sym (the_part s.role).output) here)
+
+    placed : (s : Spot) → In s spots → IsPlaced sourced l (seat ps s) (cell_for s.role)
     placed s h = record {
-      found = found s.kind;
-      usable = (parts.each s.kind).chosen.usable;
-      on_vdd = pin_source s h (pin_of s.name vdd) signal.High (vdd_told (cell_for s.kind) (ok s.kind) (part_of ps s.kind).ties.items (ties_of s) s);
-      on_vss = pin_source s h (pin_of s.name vss) signal.Low (vss_told (cell_for s.kind) (ok s.kind) (part_of ps s.kind).ties.items (ties_of s) s);
+      found = found s.role;
+      usable = (parts.each s.role).usable;
+      on_vdd = pin_source s h (pin_of s.name vdd) signal.High (vdd_told (cell_for s.role) (ok s.role) (part_of ps s.role).ties.items (ties_of s) s);
+      on_vss = pin_source s h (pin_of s.name vss) signal.Low (vss_told (cell_for s.role) (ok s.role) (part_of ps s.role).ties.items (ties_of s) s);
       shows =
-          output_source (cell_for s.kind) (ok s.kind) (part_of ps s.kind).ties.items (ties_of s) s sourced (pin_source s h) (part_of ps s.kind).output
-          (the_part s.kind).output;
+          ap (pin_sources sourced s.name) (the_part s.role).output
+          ∙ ap (λ (u : Source). u ∷ []) (pin_source s h (output_terminal ps s) (signal.Node s.shown) (shows_spot s));
     }
 
     -- ---- registers
 
-    needs_registers : (j load : ℕ) → IsNumber g.loads j load → has_registers m ≡ true
+    pub needs_registers : (j load : ℕ) → IsNumber g.loads j load → has_registers m ≡ true
     needs_registers j load h =
         let low = number_below g.loads j load h in
         let each = sub.roots.each in
@@ -167,24 +168,23 @@ module _ (m : Machine) (checked : IsChecked m) (g : Graph) (sub : IsSubjectGraph
         → IsRegisterSeat sourced l m g j (seat ps (register_spot (length (inputs m)) (0 + j) load))
     register_seat j load h listed =
         let s = register_spot (length (inputs m)) (0 + j) load in
-        let c = cell_for kind.Dff in
-        let has : HasKind c kind.Dff =
-        subst (λ (b : Bool). HasKind c (kind_for b kind.Dff)) (needs_registers j load h) (parts.each kind.Dff).chosen.kind in
-        let flip = flip_of c.function (length (cell_inputs c)) has in
-        let plain : IsPlain c (flip_flop flip.0 flip.1) = subst (λ (f : Function). IsPlain c f) flip.2 (parts.each kind.Dff).chosen.usable.function in
+        let flip = flip_cell l.cells (has_registers m) ps parts (needs_registers j load h) in
         let e : 0 + j ≡ j = omega arith in
         record {
           named = ap register_instance e;
           place = ap (λ (x : ℕ). length (inputs m) + x) e;
-          cell = c;
+          cell = cell_for role.Register;
           placed = placed s listed;
-          data_pin = flip.0;
-          clock_pin = flip.1;
-          is_register = flip.2;
+          data_pin = flip.data_pin;
+          clock_pin = flip.clock_pin;
+          is_register = flip.is_flip;
           loads =
-              data_source c (ok kind.Dff) (part_of ps kind.Dff).ties.items (ties_of s) s sourced (pin_source s listed) flip.0 flip.1 flip.2 plain.2
+              pin_source s listed (pin_of s.name flip.data_pin) (signal.Node load)
+              (data_told (cell_for role.Register) (ok role.Register) (part_of ps role.Register).ties.items (ties_of s) s flip.data_pin flip.clock_pin flip.is_flip flip.has_data)
               ∙ ap node (sym (got g.loads j load 0 (number_stands g.loads j load h)));
-          clocked = clock_source c (ok kind.Dff) (part_of ps kind.Dff).ties.items (ties_of s) s sourced (pin_source s listed) flip.0 flip.1 flip.2 plain.3 plain.4;
+          clocked =
+              pin_source s listed (pin_of s.name flip.clock_pin) signal.Clock
+              (clock_told (cell_for role.Register) (ok role.Register) (part_of ps role.Register).ties.items (ties_of s) s flip.data_pin flip.clock_pin flip.is_flip flip.has_clock flip.apart);
         }
 
     register_at_seat : (j : ℕ) (p : Seat) → IsNumber (map (seat ps) registers) j p → IsRegisterSeat sourced l m g j p
@@ -198,73 +198,51 @@ module _ (m : Machine) (checked : IsChecked m) (g : Graph) (sub : IsSubjectGraph
 
     -- ---- gates
 
-    -- a gate of a kind, whose inputs have these sources
-    gate_seat : (j i : ℕ) (one : Node) (s : Spot) → s ≡ gate_spot (0 + j) (held_count m + i) one → IsNumber g.nodes i one → In s spots
-        → (e : Expression) → (cell_for s.kind).function ≡ gate e → (leaves : List ℕ) → Computes one e leaves
-        → pin_sources sourced s.name (cell_inputs (cell_for s.kind)) ≡ map node leaves → IsGateSeat sourced l m g j (seat ps s)
-    gate_seat j i one s is h listed e is_gate leaves computes reads =
+    -- what its inputs read
+    gate_reads : (s : Spot) (x : Gate) → In s spots → s.reads ≡ node_signals x.leaves.items → (e : Expression) → (cell_for s.role).function ≡ gate e
+        → length (cell_inputs (cell_for s.role)) ≡ length x.leaves.items → pin_sources sourced s.name (cell_inputs (cell_for s.role)) ≡ map node x.leaves.items
+    gate_reads s x listed reads_is e is_gate many =
+        mapped_same (λ (p : Name). source_of sourced (pin_of s.name p)) node (cell_inputs (cell_for s.role)) x.leaves.items many
+        (λ i name a p q. pin_source s listed (pin_of s.name name) (signal.Node a)
+        (gate_input_told (cell_for s.role) (ok s.role) (part_of ps s.role).ties.items (ties_of s) s e is_gate i name (signal.Node a) p
+        (subst (λ (us : List Signal). IsNumber us i (signal.Node a)) (sym reads_is) (mapped_number (λ (y : ℕ). signal.Node y) x.leaves.items i a q))))
+
+    gate_seat : (j i : ℕ) (x : Gate) → IsNumber (node_gates m gs) i (Some x) → In (gate_spot (0 + j) (held_count m + i) x) spots
+        → IsGateSeat sourced l m g j (seat ps (gate_spot (0 + j) (held_count m + i) x))
+    gate_seat j i x h listed =
+        let s = gate_spot (0 + j) (held_count m + i) x in
         let e0 : 0 + j ≡ j = omega arith in
-        let shows : s.shown ≡ held_count m + i = ap (λ (u : Spot). u.shown) is ∙ shown_is (0 + j) (held_count m + i) one in
-        let low = number_below g.nodes i one h in
-        let P : ℕ → Type 0 = λ x. IsCut m g x e leaves in
+        let at = undropped (held_count m) gs i (held_count m + i) x refl h in
+        let inside = gate_there gs (held_count m + i) x at in
+        let long = cov.long in
+        let is = gate_cell l.cells (has_registers m) ps parts (held_count m + i) x (cov.cover.gate (held_count m + i) x at) in
         record {
-          named = ap (λ (u : Spot). u.name) is ∙ named_is (0 + j) (held_count m + i) one ∙ ap gate_instance e0;
-          beyond = omega (arith, shows);
-          within = omega (arith, shows, low);
-          cell = cell_for s.kind;
+          named = ap gate_instance e0;
+          beyond = omega arith;
+          within = omega (arith, inside, long);
+          cell = cell_for s.role;
           placed = placed s listed;
-          expr = e;
-          is_gate = is_gate;
-          leaves = leaves;
-          cut = subst P (sym shows) (plain_is_cut m g i one e leaves sub.graph h computes);
-          reads = reads;
+          expr = is.expr;
+          is_gate = is.is_gate;
+          leaves = x.leaves.items;
+          cut = covered_is_cut m g (gate_words ps) (root_numbers g) gs (held_count m + i) x is.expr sub.graph cov at is.value;
+          reads = gate_reads s x listed refl is.expr is.is_gate is.many;
         }
-
-    -- what is known of the cell of a kind
-    kind_gate : (t : Kind) → t ≢ kind.Dff → kind_for (has_registers m) t ≡ t
-        → (e : Expression) × ((cell_for t).function ≡ gate e) × IsGateOf e (length (cell_inputs (cell_for t))) t
-    kind_gate t other_kind same =
-        let c = cell_for t in
-        gate_of c.function (length (cell_inputs c)) t (subst (λ (u : Kind). HasKind c u) same (parts.each t).chosen.kind) other_kind
-
-    at_gate : (j i : ℕ) (one : Node) → IsNumber g.nodes i one → In (gate_spot (0 + j) (held_count m + i) one) spots
-        → IsGateSeat sourced l m g j (seat ps (gate_spot (0 + j) (held_count m + i) one))
-    at_gate j i (fixed true) h listed =
-        let s = gate_spot (0 + j) (held_count m + i) (fixed true) in
-        let c = kind_gate kind.One (λ e. absurd (cc e)) refl in
-        gate_seat j i (fixed true) s refl h listed c.0 c.1 [] (refl, c.2.1)
-        (no_inputs (cell_for kind.One) (ok kind.One) (part_of ps kind.One).ties.items (ties_of s) s sourced (pin_source s listed) c.2.0)
-    at_gate j i (fixed false) h listed =
-        let s = gate_spot (0 + j) (held_count m + i) (fixed false) in
-        let c = kind_gate kind.Zero (λ e. absurd (cc e)) refl in
-        gate_seat j i (fixed false) s refl h listed c.0 c.1 [] (refl, c.2.1)
-        (no_inputs (cell_for kind.Zero) (ok kind.Zero) (part_of ps kind.Zero).ties.items (ties_of s) s sourced (pin_source s listed) c.2.0)
-    at_gate j i (inv a) h listed =
-        let s = gate_spot (0 + j) (held_count m + i) (inv a) in
-        let c = kind_gate kind.Inv (λ e. absurd (cc e)) refl in
-        gate_seat j i (inv a) s refl h listed c.0 c.1 (a ∷ []) (refl, c.2.1)
-        (one_input (cell_for kind.Inv) (ok kind.Inv) (part_of ps kind.Inv).ties.items (ties_of s) s sourced (pin_source s listed) c.0 c.1 c.2.0)
-    at_gate j i (nand a b) h listed =
-        let s = gate_spot (0 + j) (held_count m + i) (nand a b) in
-        let c = kind_gate kind.Nand2 (λ e. absurd (cc e)) refl in
-        gate_seat j i (nand a b) s refl h listed c.0 c.1 (a ∷ b ∷ []) (refl, c.2.1)
-        (two_inputs (cell_for kind.Nand2) (ok kind.Nand2) (part_of ps kind.Nand2).ties.items (ties_of s) s sourced (pin_source s listed) c.0 c.1 c.2.0
-        (inputs_differ (cell_for kind.Nand2) (ok kind.Nand2)))
 
     gate_at_seat : (j : ℕ) (p : Seat) → IsNumber (map (seat ps) gates) j p → IsGateSeat sourced l m g j p
     gate_at_seat j p h =
         let u = unmapped (seat ps) gates j p (number_stands (map (seat ps) gates) j p h) in
-        let r = gate_at marks (held_count m) 0 g.nodes j u.0 (stands_number gates j u.0 u.1) in
+        let r = gate_at (held_count m) 0 (node_gates m gs) j u.0 (stands_number gates j u.0 u.1) in
         let listed : In u.0 spots = In-right u.0 registers gates (there_in gates j u.0 u.1) in
         subst (λ (q : Seat). IsGateSeat sourced l m g j q) u.2
-        (subst (λ (s : Spot). IsGateSeat sourced l m g j (seat ps s)) (sym r.4)
-        (at_gate j r.0 r.1 r.2 (subst (λ (s : Spot). In s spots) r.4 listed)))
+        (subst (λ (s : Spot). IsGateSeat sourced l m g j (seat ps s)) (sym r.3)
+        (gate_seat j r.0 r.1 r.2 (subst (λ (s : Spot). In s spots) r.3 listed)))
 
     rising_seats : (i j : ℕ) (p q : Seat) → IsNumber (map (seat ps) gates) i p → IsNumber (map (seat ps) gates) j q → i < j → p.node < q.node
     rising_seats i j p q a b less =
         let u = unmapped (seat ps) gates i p (number_stands (map (seat ps) gates) i p a) in
         let v = unmapped (seat ps) gates j q (number_stands (map (seat ps) gates) j q b) in
-        let h = rising marks (held_count m) 0 g.nodes i j u.0 v.0 (stands_number gates i u.0 u.1) (stands_number gates j v.0 v.1) less in
+        let h = rising (held_count m) 0 (node_gates m gs) i j u.0 v.0 (stands_number gates i u.0 u.1) (stands_number gates j v.0 v.1) less in
         let x : p.node ≡ u.0.shown = ap (λ (s : Seat). s.node) (sym u.2) in
         let y : q.node ≡ v.0.shown = ap (λ (s : Seat). s.node) (sym v.2) in
         omega (arith, h, x, y)
@@ -274,7 +252,7 @@ module _ (m : Machine) (checked : IsChecked m) (g : Graph) (sub : IsSubjectGraph
     ports_are : k.ports ≡ names_of ports
     ports_are = ap (λ (x : AbstractNetlist). x.ports) seen.is ∙ ap (λ (xs : List Port). names_of xs) ports_is
 
-    members : k.instances ≡ map (λ (p : Seat). p.member) (map (seat ps) spots)
+    pub members : k.instances ≡ map (λ (p : Seat). p.member) (map (seat ps) spots)
     members = ap (λ (x : AbstractNetlist). x.instances) seen.is ∙ ap (map member_of) instances_is ∙ members_are ps spots
 
     instances : k.instances ≡ map (λ (p : Seat). p.member) (map (seat ps) registers ++ map (seat ps) gates)
@@ -283,7 +261,7 @@ module _ (m : Machine) (checked : IsChecked m) (g : Graph) (sub : IsSubjectGraph
     -- ---- each terminal has a signal
 
     own_apart : (p : Port) → In p m.ports → (p.name ≢ vdd) × (p.name ≢ vss)
-    own_apart = apart m checked g sub l passed ps parts marks reached
+    own_apart = apart m checked g sub l passed ps parts gs cov
 
     first_told : (t : Terminal) → IsThere (terminals n) t → (s : Signal) × In (t, s) signals
     first_told t h =
@@ -291,19 +269,19 @@ module _ (m : Machine) (checked : IsChecked m) (g : Graph) (sub : IsSubjectGraph
         let u = unmapped (λ (x : Terminal × Signal). x.0) signals there_is.0 t there_is.1 in
         (u.0.1, subst (λ (y : Terminal). In (y, u.0.1) signals) u.2 (there_in signals there_is.0 u.0 u.1))
 
-    pin_there : (s : Spot) (name : Name) → In s spots → In name (names_of (all_ports (cell_for s.kind))) → (u : Signal) × In (pin_of s.name name, u) signals
+    pin_there : (s : Spot) (name : Name) → In s spots → In name (names_of (all_ports (cell_for s.role))) → (u : Signal) × In (pin_of s.name name, u) signals
     pin_there s name h i =
         let own = in_pins s name i in
-        (own.0, spot_told m checked g sub l passed ps parts marks reached s (pin_of s.name name, own.0) h own.1) where
-          in_pins : (s : Spot) (name : Name) → In name (names_of (all_ports (cell_for s.kind))) → (u : Signal) × In (pin_of s.name name, u) (spot_signals ps s)
+        (own.0, spot_told m checked g sub l passed ps parts gs cov s (pin_of s.name name, own.0) h own.1) where
+          in_pins : (s : Spot) (name : Name) → In name (names_of (all_ports (cell_for s.role))) → (u : Signal) × In (pin_of s.name name, u) (spot_signals ps s)
           in_pins s name i =
-              let r = In-map_back (λ (p : Port). p.name) name (all_ports (cell_for s.kind)) i in
-              let t = tied_pin (first_of (cell_for s.kind)) r.0 in
-              let one : In t (part_of ps s.kind).ties.items =
-              subst (λ (ts : List TiedPin). In t ts) (sym (ties_of s)) (In-map (tied_pin (first_of (cell_for s.kind))) r.0 (all_ports (cell_for s.kind)) r.1) in (
+              let r = In-map_back (λ (p : Port). p.name) name (all_ports (cell_for s.role)) i in
+              let t = tied_pin (read_pins (cell_for s.role)) r.0 in
+              let one : In t (part_of ps s.role).ties.items =
+              subst (λ (ts : List TiedPin). In t ts) (sym (ties_of s)) (In-map (tied_pin (read_pins (cell_for s.role))) r.0 (all_ports (cell_for s.role)) r.1) in (
                 tied_signal s t.tie,
                 subst (λ (x : Name). In (pin_of s.name x, tied_signal s t.tie) (spot_signals ps s)) r.2
-                    (In-map (λ (p : TiedPin). (pin_of s.name p.name, tied_signal s p.tie)) t (part_of ps s.kind).ties.items one),
+                    (In-map (λ (p : TiedPin). (pin_of s.name p.name, tied_signal s p.tie)) t (part_of ps s.role).ties.items one),
               )
 
     terminal_told : (t : Terminal) → IsTerminal k l t → (s : Signal) × In (t, s) signals
@@ -320,14 +298,14 @@ module _ (m : Machine) (checked : IsChecked m) (g : Graph) (sub : IsSubjectGraph
         let q = In-map_back (λ (p : Seat). p.member) i (map (seat ps) spots) listed in
         let s = In-map_back (seat ps) q.0 spots q.1 in
         let same : member_for ps s.0 ≡ i = ap (λ (p : Seat). p.member) s.2 ∙ q.2 in
-        let cell : Some (cell_for s.0.kind) ≡ Some c = sym (found s.0.kind) ∙ ap (λ (x : Member). cell_of l x.model) same ∙ is in
-        let is_cell : cell_for s.0.kind ≡ c = cc cell in
-        let connected : In name (connector_names (cell_for s.0.kind).items) = subst (λ (x : Cell). In name (connector_names x.items)) (sym is_cell) names_it in
-        let among = (names (pin_ports (cell_for s.0.kind)) (sorted_of (pin_ports (cell_for s.0.kind)) (ok s.0.kind).order) (pins_apart s.0.kind) name).1
-        (((parts.each s.0.kind).chosen.usable.connectors name).0 connected) in
+        let cell : Some (cell_for s.0.role) ≡ Some c = sym (found s.0.role) ∙ ap (λ (x : Member). cell_of l x.model) same ∙ is in
+        let is_cell : cell_for s.0.role ≡ c = cc cell in
+        let connected : In name (connector_names (cell_for s.0.role).items) = subst (λ (x : Cell). In name (connector_names x.items)) (sym is_cell) names_it in
+        let among = (names (pin_ports (cell_for s.0.role)) (sorted_of (pin_ports (cell_for s.0.role)) (ok s.0.role).order) (pins_apart s.0.role) name).1
+        (((parts.each s.0.role).usable.connectors name).0 connected) in
         let pin = pin_there s.0 name s.1 among in
         (pin.0, subst (λ (x : Member). In (pin_of x.name name, pin.0) signals) same pin.1) where
-          pins_apart : (t : Kind) (p : Port) → In p (pin_ports (cell_for t)) → (p.name ≢ vdd) × (p.name ≢ vss)
+          pins_apart : (t : Role) (p : Port) → In p (pin_ports (cell_for t)) → (p.name ≢ vdd) × (p.name ≢ vss)
           pins_apart t p h = (ok t).signals p.name (In-map (λ (x : Port). x.name) p (pin_ports (cell_for t)) h)
 
     -- ---- where sources come from
@@ -335,7 +313,7 @@ module _ (m : Machine) (checked : IsChecked m) (g : Graph) (sub : IsSubjectGraph
     seats_hold : (s : Spot) → In s spots → In (seat ps s) (map (seat ps) registers ++ map (seat ps) gates)
     seats_hold s h = subst (λ (xs : List Seat). In (seat ps s) xs) (map-append (seat ps) registers gates) (In-map (seat ps) s spots h)
 
-    comes : (s : Signal) → Begins m checked g sub l passed ps parts marks reached s → ComesFrom m (map (seat ps) registers ++ map (seat ps) gates) (source_of_signal s)
+    comes : (s : Signal) → Begins m checked g sub l passed ps parts gs cov s → ComesFrom m (map (seat ps) registers ++ map (seat ps) gates) (source_of_signal s)
     comes signal.High b = tt
     comes signal.Low b = tt
     comes signal.Clock b = b
@@ -344,13 +322,13 @@ module _ (m : Machine) (checked : IsChecked m) (g : Graph) (sub : IsSubjectGraph
     origin : (c : ℕ) → c < k.classes → ComesFrom m (map (seat ps) registers ++ map (seat ps) gates) (sourced.source c)
     origin c h =
         let r = class_origin n sound signals d all closed joined k seen c h in
-        let good = driven m checked g sub l passed ps parts marks reached d drv (r.0, r.1) r.2 in
+        let good = driven m checked g sub l passed ps parts gs cov d drv (r.0, r.1) r.2 in
         subst (λ (x : Source). ComesFrom m (map (seat ps) registers ++ map (seat ps) gates) x) (sym r.3) (comes r.1 good.2)
 
-    port_cases : (name : Name) → In name k.ports ↔ ((name ≡ vdd) ⊎ ((name ≡ vss) ⊎ In name (names_of m.ports)))
+    pub port_cases : (name : Name) → In name k.ports ↔ ((name ≡ vdd) ⊎ ((name ≡ vss) ⊎ In name (names_of m.ports)))
     port_cases name =
         subst (λ (xs : List Name). In name xs ↔ ((name ≡ vdd) ⊎ ((name ≡ vss) ⊎ In name (names_of m.ports)))) (sym ports_are)
-        (names m.ports (sorted m checked g sub l passed ps parts marks reached) own_apart name)
+        (names m.ports (sorted m checked g sub l passed ps parts gs cov) own_apart name)
 
     module _ (few : length spots < 2 ^ 32) where
       few_registers : length (map (seat ps) registers) < 2 ^ 64
@@ -375,9 +353,9 @@ module _ (m : Machine) (checked : IsChecked m) (g : Graph) (sub : IsSubjectGraph
         one_class = one_class n sound signals d all closed joined k seen;
         origins = origin;
         ports = port_cases;
-        on_vdd = source_is (port vdd) signal.High (on_vdd m checked g sub l passed ps parts marks reached);
-        on_vss = source_is (port vss) signal.Low (on_vss m checked g sub l passed ps parts marks reached);
-        on_clock = λ name is. source_is (port name) signal.Clock (on_clock m checked g sub l passed ps parts marks reached name is);
-        in_ports = λ j name is. source_is (port name) (signal.Node j) (on_input m checked g sub l passed ps parts marks reached j name is);
-        out_ports = λ j name is. source_is (port name) (signal.Node (get_or g.outputs j 0)) (on_output m checked g sub l passed ps parts marks reached j name is);
+        on_vdd = source_is (port vdd) signal.High (on_vdd m checked g sub l passed ps parts gs cov);
+        on_vss = source_is (port vss) signal.Low (on_vss m checked g sub l passed ps parts gs cov);
+        on_clock = λ name is. source_is (port name) signal.Clock (on_clock m checked g sub l passed ps parts gs cov name is);
+        in_ports = λ j name is. source_is (port name) (signal.Node j) (on_input m checked g sub l passed ps parts gs cov j name is);
+        out_ports = λ j name is. source_is (port name) (signal.Node (get_or g.outputs j 0)) (on_output m checked g sub l passed ps parts gs cov j name is);
       }

@@ -1,12 +1,9 @@
--- The instances of registers and of marked nodes.
-use Rattle.std.proofs.Common.{◌≡◌, ℕ, zero, suc, ◌+◌, ◌<◌, ◌≤◌, Bool, true, false, List, [], ◌∷◌, length, refl, sym, ◌∙◌, ap, subst, arith, if◌then◌else◌, filter}
-use Rattle.vlsi_base.specs.Names.{vss}
-use Rattle.bool_expr.specs.Expression.{bit}
-use Rattle.net_core.specs.Netlist.{port}
+-- The instances of registers and of gates.
+use Rattle.std.proofs.Common.{◌≡◌, ℕ, zero, suc, ◌+◌, ◌<◌, ◌≤◌, Bool, true, false, List, [], ◌∷◌, length, Option, None, Some, refl, ◌∙◌, ap, subst, arith, filter}
 use Rattle.net_theory.specs.Sources.{IsNumber}
-use Rattle.net_meaning.specs.Well.{gate_instance}
-use Rattle.graph_theory.specs.Graph.{Node, fixed, inv, nand}
-use Rattle.boog_map.specs.declared.part.Parts.{Parts}
+use Rattle.net_theory.proofs.Basics.{listed}
+use Rattle.cell_match.specs.declared.gate.Gate.{Gate}
+use Rattle.boog_map.specs.declared.choice.Parts.{Parts}
 use Rattle.boog_map.specs.declared.place.Spot.{Spot}
 use Rattle.boog_map.specs.Draft.{register_spot, register_spots, gate_spot, gate_spots, gate_drivers, output_terminal}
 
@@ -39,164 +36,110 @@ register_count front k (load ∷ loads) = let h = register_count front (suc k) l
 
 -- ---- gates
 
--- gate number k + j is that of a marked node
-abbrev pub GateAt : List Bool → ℕ → ℕ → List Node → ℕ → Spot → Type 0
-GateAt marks number k nodes j s = (i : ℕ) × (one : Node) × IsNumber nodes i one × (bit marks (number + i) ≡ true) × (s ≡ gate_spot (k + j) (number + i) one)
+-- gate number k + j is that of a node which has one
+abbrev pub GateAt : ℕ → ℕ → List (Option Gate) → ℕ → Spot → Type 0
+GateAt number k gs j s = (i : ℕ) × (x : Gate) × IsNumber gs i (Some x) × (s ≡ gate_spot (k + j) (number + i) x)
 
-shift : (marks : List Bool) (number k : ℕ) (first : Node) (nodes : List Node) (j m : ℕ) (s : Spot) → j ≡ m → GateAt marks (suc number) k nodes j s
-    → (i : ℕ) × (one : Node) × IsNumber (first ∷ nodes) i one × (bit marks (number + i) ≡ true) × (s ≡ gate_spot (k + m) (number + i) one)
-shift marks number k first nodes j m s same r =
-    let e : suc number + r.0 ≡ number + suc r.0 = omega arith in
-    let P : ℕ → Type 0 = λ x. bit marks x ≡ true in (
+shift : (number k : ℕ) (first : Option Gate) (gs : List (Option Gate)) (j m : ℕ) (s : Spot) → j ≡ m → GateAt (suc number) k gs j s
+    → (i : ℕ) × (x : Gate) × IsNumber (first ∷ gs) i (Some x) × (s ≡ gate_spot (k + m) (number + i) x)
+shift number k first gs j m s same r =
+    let e : suc number + r.0 ≡ number + suc r.0 = omega arith in (
       suc r.0,
       r.1,
       r.2,
-      subst P e r.3,
-      r.4 ∙ ap (λ (x : ℕ). gate_spot (k + x) (suc number + r.0) r.1) same ∙ ap (λ (x : ℕ). gate_spot (k + m) x r.1) e,
+      r.3 ∙ ap (λ (x : ℕ). gate_spot (k + x) (suc number + r.0) r.1) same ∙ ap (λ (x : ℕ). gate_spot (k + m) x r.1) e,
     )
 
-pub gate_at : (marks : List Bool) (number k : ℕ) (nodes : List Node) (j : ℕ) (s : Spot) → IsNumber (gate_spots marks number k nodes) j s → GateAt marks number k nodes j s
-gate_at marks number k [] j s h = absurd h
-gate_at marks number k (first ∷ nodes) j s h = by (λ k j h. gate_at marks (suc number) k nodes j s h) (bit marks number) refl j h where
-  by : ((k j : ℕ) → IsNumber (gate_spots marks (suc number) k nodes) j s → GateAt marks (suc number) k nodes j s) → (b : Bool) → bit marks number ≡ b → (j : ℕ)
-      → IsNumber (if b then gate_spot k number first ∷ gate_spots marks (suc number) (suc k) nodes else gate_spots marks (suc number) k nodes) j s
-      → GateAt marks number k (first ∷ nodes) j s
-  by rest true e zero h =
-      let n : number ≡ number + 0 = omega arith in
-      let m : k ≡ k + 0 = omega arith in
-      let P : ℕ → Type 0 = λ x. bit marks x ≡ true in
-      (0, first, refl, subst P n e, h ∙ ap (λ (x : ℕ). gate_spot x number first) m ∙ ap (λ (x : ℕ). gate_spot (k + 0) x first) n)
-  by rest true e (suc j) h =
-      let r = rest (suc k) j h in
-      let n : suc k + j ≡ k + suc j = omega arith in
-      let moved : GateAt marks (suc number) k nodes (suc j) s = (r.0, r.1, r.2, r.3, r.4 ∙ ap (λ (x : ℕ). gate_spot x (suc number + r.0) r.1) n) in
-      shift marks number k first nodes (suc j) (suc j) s refl moved
-  by rest false e j h = shift marks number k first nodes j j s refl (rest k j h)
+pub gate_at : (number k : ℕ) (gs : List (Option Gate)) (j : ℕ) (s : Spot) → IsNumber (gate_spots number k gs) j s → GateAt number k gs j s
+gate_at number k [] j s h = absurd h
+gate_at number k (None ∷ gs) j s h = shift number k None gs j j s refl (gate_at (suc number) k gs j s h)
+gate_at number k (Some x ∷ gs) zero s h =
+    let n : number ≡ number + 0 = omega arith in
+    let m : k ≡ k + 0 = omega arith in
+    (0, x, refl, h ∙ ap (λ (y : ℕ). gate_spot y number x) m ∙ ap (λ (y : ℕ). gate_spot (k + 0) y x) n)
+gate_at number k (Some x ∷ gs) (suc j) s h =
+    let r = gate_at (suc number) (suc k) gs j s h in
+    let n : suc k + j ≡ k + suc j = omega arith in
+    let moved : GateAt (suc number) k gs (suc j) s = (r.0, r.1, r.2, r.3 ∙ ap (λ (y : ℕ). gate_spot y (suc number + r.0) r.1) n) in
+    shift number k (Some x) gs (suc j) (suc j) s refl moved
 
--- a marked node is a gate, whose output pin drives its number
-abbrev pub GateFound : Parts → List Bool → ℕ → ℕ → List Node → ℕ → Node → Type 0
-GateFound ps marks number k nodes i one =
-    (j : ℕ) × IsNumber (gate_spots marks number k nodes) j (gate_spot (k + j) (number + i) one)
-    × IsNumber (gate_drivers ps marks number k nodes) i (output_terminal ps (gate_spot (k + j) (number + i) one))
+-- a node that has a gate is among the instances, and their output pins drive their numbers
+abbrev pub GateFound : Parts → ℕ → ℕ → List (Option Gate) → ℕ → Gate → Type 0
+GateFound ps number k gs i x =
+    (j : ℕ) × IsNumber (gate_spots number k gs) j (gate_spot (k + j) (number + i) x)
+    × IsNumber (gate_drivers ps number k gs) i (output_terminal ps (gate_spot (k + j) (number + i) x))
 
-pub gate_found : (ps : Parts) (marks : List Bool) (number k : ℕ) (nodes : List Node) (i : ℕ) (one : Node) → IsNumber nodes i one → bit marks (number + i) ≡ true
-    → GateFound ps marks number k nodes i one
-gate_found ps marks number k [] i one h is = absurd h
-gate_found ps marks number k (first ∷ nodes) zero one h is = by (bit marks number) refl where
-  here_is : bit marks number ≡ true
-  here_is = let n : number + 0 ≡ number = omega arith in let P : ℕ → Type 0 = λ x. bit marks x ≡ true in subst P n is
+pub gate_found : (ps : Parts) (number k : ℕ) (gs : List (Option Gate)) (i : ℕ) (x : Gate) → IsNumber gs i (Some x) → GateFound ps number k gs i x
+gate_found ps number k [] i x h = absurd h
+gate_found ps number k (None ∷ gs) zero x h = absurd (cc h)
+gate_found ps number k (None ∷ gs) (suc i) x h =
+    let r = gate_found ps (suc number) k gs i x h in
+    let same : suc number + i ≡ number + suc i = omega arith in
+    let spot : gate_spot (k + r.0) (suc number + i) x ≡ gate_spot (k + r.0) (number + suc i) x = ap (λ (y : ℕ). gate_spot (k + r.0) y x) same in (
+      r.0,
+      subst (λ (s : Spot). IsNumber (gate_spots (suc number) k gs) r.0 s) spot r.1,
+      subst (λ (s : Spot). IsNumber (gate_drivers ps (suc number) k gs) i (output_terminal ps s)) spot r.2,
+    )
+gate_found ps number k (Some y ∷ gs) zero x h =
+    let same : x ≡ y = cc h in
+    let n : number + 0 ≡ number = omega arith in
+    let m : k + 0 ≡ k = omega arith in
+    let spot : gate_spot (k + 0) (number + 0) x ≡ gate_spot k number y =
+    ap (λ (z : ℕ). gate_spot z (number + 0) x) m ∙ ap (λ (z : ℕ). gate_spot k z x) n ∙ ap (λ (z : Gate). gate_spot k number z) same in
+    (0, spot, ap (output_terminal ps) spot)
+gate_found ps number k (Some y ∷ gs) (suc i) x h =
+    let r = gate_found ps (suc number) (suc k) gs i x h in
+    let same : suc number + i ≡ number + suc i = omega arith in
+    let n : suc k + r.0 ≡ k + suc r.0 = omega arith in
+    let spot : gate_spot (suc k + r.0) (suc number + i) x ≡ gate_spot (k + suc r.0) (number + suc i) x =
+    ap (λ (z : ℕ). gate_spot z (suc number + i) x) n ∙ ap (λ (z : ℕ). gate_spot (k + suc r.0) z x) same in (
+      suc r.0,
+      subst (λ (s : Spot). IsNumber (gate_spots (suc number) (suc k) gs) r.0 s) spot r.1,
+      subst (λ (s : Spot). IsNumber (gate_drivers ps (suc number) (suc k) gs) i (output_terminal ps s)) spot r.2,
+    )
 
-  the_spot : gate_spot (k + 0) (number + 0) one ≡ gate_spot k number first
-  the_spot =
-      let n : number + 0 ≡ number = omega arith in
-      let m : k + 0 ≡ k = omega arith in
-      ap (λ (x : ℕ). gate_spot x (number + 0) one) m ∙ ap (λ (x : ℕ). gate_spot k x one) n ∙ ap (λ (x : Node). gate_spot k number x) h
+-- ---- what instances show
 
-  by : (b : Bool) → bit marks number ≡ b
-      → (j : ℕ)
-      × IsNumber (if b then gate_spot k number first ∷ gate_spots marks (suc number) (suc k) nodes else gate_spots marks (suc number) k nodes) j (gate_spot (k + j) (number + 0) one)
-      × IsNumber
-      (if b then output_terminal ps (gate_spot k number first) ∷ gate_drivers ps marks (suc number) (suc k) nodes else port vss ∷ gate_drivers ps marks (suc number) k nodes)
-      0 (output_terminal ps (gate_spot (k + j) (number + 0) one))
-  by true e = (0, the_spot, ap (output_terminal ps) the_spot)
-  by false e = absurd (let no : true ≡ false = sym here_is ∙ e in cc)
-gate_found ps marks number k (first ∷ nodes) (suc i) one h is = by (λ k m. gate_found ps marks (suc number) k nodes i one h m) (bit marks number) where
-  same : suc number + i ≡ number + suc i
-  same = omega arith
-
-  marked : bit marks (suc number + i) ≡ true
-  marked = let P : ℕ → Type 0 = λ x. bit marks x ≡ true in subst P (sym same) is
-
-  by : ((k : ℕ) → bit marks (suc number + i) ≡ true → GateFound ps marks (suc number) k nodes i one) → (b : Bool)
-      → (j : ℕ)
-      × IsNumber (if b then gate_spot k number first ∷ gate_spots marks (suc number) (suc k) nodes else gate_spots marks (suc number) k nodes) j (gate_spot (k + j) (number + suc i) one)
-      × IsNumber
-      (if b then output_terminal ps (gate_spot k number first) ∷ gate_drivers ps marks (suc number) (suc k) nodes else port vss ∷ gate_drivers ps marks (suc number) k nodes)
-      (suc i) (output_terminal ps (gate_spot (k + j) (number + suc i) one))
-  by rest true =
-      let r = rest (suc k) marked in
-      let n : suc k + r.0 ≡ k + suc r.0 = omega arith in
-      let spot : gate_spot (suc k + r.0) (suc number + i) one ≡ gate_spot (k + suc r.0) (number + suc i) one =
-      ap (λ (x : ℕ). gate_spot x (suc number + i) one) n ∙ ap (λ (x : ℕ). gate_spot (k + suc r.0) x one) same in (
-        suc r.0,
-        subst (λ (s : Spot). IsNumber (gate_spots marks (suc number) (suc k) nodes) r.0 s) spot r.1,
-        subst (λ (s : Spot). IsNumber (gate_drivers ps marks (suc number) (suc k) nodes) i (output_terminal ps s)) spot r.2,
-      )
-  by rest false =
-      let r = rest k marked in
-      let spot : gate_spot (k + r.0) (suc number + i) one ≡ gate_spot (k + r.0) (number + suc i) one = ap (λ (x : ℕ). gate_spot (k + r.0) x one) same in (
-        r.0,
-        subst (λ (s : Spot). IsNumber (gate_spots marks (suc number) k nodes) r.0 s) spot r.1,
-        subst (λ (s : Spot). IsNumber (gate_drivers ps marks (suc number) k nodes) i (output_terminal ps s)) spot r.2,
-      )
-
--- ---- what instances show, and how they are named
-
-pub shown_is : (k number : ℕ) (one : Node) → (gate_spot k number one).shown ≡ number
-shown_is k number (fixed true) = refl
-shown_is k number (fixed false) = refl
-shown_is k number (inv a) = refl
-shown_is k number (nand a b) = refl
-
-pub named_is : (k number : ℕ) (one : Node) → (gate_spot k number one).name ≡ gate_instance k
-named_is k number (fixed true) = refl
-named_is k number (fixed false) = refl
-named_is k number (inv a) = refl
-named_is k number (nand a b) = refl
-
-shown_low : (marks : List Bool) (number k : ℕ) (nodes : List Node) (j : ℕ) (s : Spot) → IsNumber (gate_spots marks number k nodes) j s → number ≤ s.shown
-shown_low marks number k nodes j s h =
-    let r = gate_at marks number k nodes j s h in
-    let e : s.shown ≡ number + r.0 = ap (λ (x : Spot). x.shown) r.4 ∙ shown_is (k + j) (number + r.0) r.1 in omega (arith, e)
+shown_low : (number k : ℕ) (gs : List (Option Gate)) (j : ℕ) (s : Spot) → IsNumber (gate_spots number k gs) j s → number ≤ s.shown
+shown_low number k gs j s h =
+    let r = gate_at number k gs j s h in
+    let e : s.shown ≡ number + r.0 = ap (λ (x : Spot). x.shown) r.3 in omega (arith, e)
 
 -- the nodes of gates rise
-pub rising : (marks : List Bool) (number k : ℕ) (nodes : List Node) (i j : ℕ) (s u : Spot) → IsNumber (gate_spots marks number k nodes) i s
-    → IsNumber (gate_spots marks number k nodes) j u → i < j → s.shown < u.shown
-rising marks number k [] i j s u p q less = absurd p
-rising marks number k (first ∷ nodes) i j s u p q less = by (λ k i j p q less. rising marks (suc number) k nodes i j s u p q less) (bit marks number) i j p q less where
-  by : ((k i j : ℕ) → IsNumber (gate_spots marks (suc number) k nodes) i s → IsNumber (gate_spots marks (suc number) k nodes) j u → i < j → s.shown < u.shown) → (b : Bool) (i j : ℕ)
-      → IsNumber (if b then gate_spot k number first ∷ gate_spots marks (suc number) (suc k) nodes else gate_spots marks (suc number) k nodes) i s
-      → IsNumber (if b then gate_spot k number first ∷ gate_spots marks (suc number) (suc k) nodes else gate_spots marks (suc number) k nodes) j u
-      → i < j → s.shown < u.shown
-  by rest true i zero p q less = absurd (omega (arith, less))
-  by rest true zero (suc j) p q less =
-      let low = shown_low marks (suc number) (suc k) nodes j u q in
-      let e : s.shown ≡ number = ap (λ (x : Spot). x.shown) p ∙ shown_is k number first in omega (arith, low, e)
-  by rest true (suc i) (suc j) p q less = rest (suc k) i j p q (omega (arith, less))
-  by rest false i j p q less = rest k i j p q less
+pub rising : (number k : ℕ) (gs : List (Option Gate)) (i j : ℕ) (s u : Spot) → IsNumber (gate_spots number k gs) i s → IsNumber (gate_spots number k gs) j u → i < j
+    → s.shown < u.shown
+rising number k [] i j s u p q less = absurd p
+rising number k (None ∷ gs) i j s u p q less = rising (suc number) k gs i j s u p q less
+rising number k (Some x ∷ gs) i zero s u p q less = absurd (omega (arith, less))
+rising number k (Some x ∷ gs) zero (suc j) s u p q less =
+    let low = shown_low (suc number) (suc k) gs j u q in
+    let e : s.shown ≡ number = ap (λ (y : Spot). y.shown) p in omega (arith, low, e)
+rising number k (Some x ∷ gs) (suc i) (suc j) s u p q less = rising (suc number) (suc k) gs i j s u p q (omega (arith, less))
 
 -- ---- how many
 
-pub gate_count : (marks : List Bool) (number k : ℕ) (nodes : List Node) → length (gate_spots marks number k nodes) ≤ length nodes
-gate_count marks number k [] = omega arith
-gate_count marks number k (first ∷ nodes) = by (λ k. gate_count marks (suc number) k nodes) (bit marks number) where
-  by : ((k : ℕ) → length (gate_spots marks (suc number) k nodes) ≤ length nodes) → (b : Bool) → length (if b then gate_spot k number first ∷ gate_spots marks (suc number) (suc k) nodes else gate_spots marks (suc number) k nodes) ≤ length (first ∷ nodes)
-  by rest true = let h = rest (suc k) in omega (arith, h)
-  by rest false = let h = rest k in omega (arith, h)
+pub gate_count : (number k : ℕ) (gs : List (Option Gate)) → length (gate_spots number k gs) ≤ length gs
+gate_count number k [] = omega arith
+gate_count number k (None ∷ gs) = let h = gate_count (suc number) k gs in omega (arith, h)
+gate_count number k (Some x ∷ gs) = let h = gate_count (suc number) (suc k) gs in omega (arith, h)
 
--- the marks of nodes, behind those of inputs and registers
-pub marks_behind : List Bool → ℕ → List Node → List Bool
-marks_behind marks number [] = []
-marks_behind marks number (first ∷ nodes) = bit marks number ∷ marks_behind marks (suc number) nodes
+abbrev kept : List Bool → ℕ
+kept bs = length (filter (λ b. b) bs)
 
-pub behind_count : (marks : List Bool) (number k : ℕ) (nodes : List Node) → length (gate_spots marks number k nodes) ≡ length (filter (λ b. b) (marks_behind marks number nodes))
-unfolding marks_behind
-behind_count marks number k [] = refl
-behind_count marks number k (first ∷ nodes) = by (λ k. behind_count marks (suc number) k nodes) (bit marks number) where
-  by : ((k : ℕ) → length (gate_spots marks (suc number) k nodes) ≡ length (filter (λ c. c) (marks_behind marks (suc number) nodes))) → (b : Bool) → length (if b then gate_spot k number first ∷ gate_spots marks (suc number) (suc k) nodes else gate_spots marks (suc number) k nodes)
-      ≡ length (if b then b ∷ filter (λ c. c) (marks_behind marks (suc number) nodes) else filter (λ c. c) (marks_behind marks (suc number) nodes))
-  by rest true = let h = rest (suc k) in omega (arith, h)
-  by rest false = rest k
+first_kept : (b : Bool) (bs : List Bool) → kept bs ≤ kept (b ∷ bs)
+first_kept true bs = omega arith
+first_kept false bs = omega arith
 
-pub behind_length : (marks : List Bool) (number : ℕ) (nodes : List Node) → length (marks_behind marks number nodes) ≡ length nodes
-unfolding marks_behind
-behind_length marks number [] = refl
-behind_length marks number (first ∷ nodes) = let h = behind_length marks (suc number) nodes in omega (arith, h)
-
-pub behind_bit : (marks : List Bool) (number : ℕ) (nodes : List Node) (j : ℕ) → j < length nodes → bit (marks_behind marks number nodes) j ≡ bit marks (number + j)
-unfolding marks_behind
-behind_bit marks number [] j h = absurd (omega (arith, h))
-behind_bit marks number (first ∷ nodes) zero h = let n : number ≡ number + 0 = omega arith in ap (bit marks) n
-behind_bit marks number (first ∷ nodes) (suc j) h =
-    let n : suc number + j ≡ number + suc j = omega arith in
-    behind_bit marks (suc number) nodes j (omega (arith, h)) ∙ ap (bit marks) n
+-- where each node that has a gate has a mark
+pub marked_count : (number k : ℕ) (gs : List (Option Gate)) (f : ℕ → Bool) → ((i : ℕ) (x : Gate) → IsNumber gs i (Some x) → f i ≡ true)
+    → length (gate_spots number k gs) ≤ length (filter (λ b. b) (listed (length gs) f))
+marked_count number k [] f all = omega arith
+marked_count number k (None ∷ gs) f all =
+    let h = marked_count (suc number) k gs (λ i. f (suc i)) (λ i x is. all (suc i) x is) in
+    let more = first_kept (f 0) (listed (length gs) (λ i. f (suc i))) in
+    omega (arith, h, more)
+marked_count number k (Some x ∷ gs) f all =
+    let h = marked_count (suc number) (suc k) gs (λ i. f (suc i)) (λ i y is. all (suc i) y is) in
+    let one : kept (f 0 ∷ listed (length gs) (λ i. f (suc i))) ≡ suc (kept (listed (length gs) (λ i. f (suc i)))) =
+    ap (λ (b : Bool). kept (b ∷ listed (length gs) (λ i. f (suc i)))) (all 0 x refl) in
+    omega (arith, h, one)

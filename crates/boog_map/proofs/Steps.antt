@@ -1,14 +1,12 @@
 -- One more instance, terminal or port behind those so far.
-use Rattle.std.proofs.Common.{◌≡◌, ℕ, suc, ◌+◌, ◌<◌, ◌≤◌, Bool, true, false, not, List, [], ◌∷◌, ◌++◌, length, map, filter, drop, get_or, refl, sym, ◌∙◌, ap, arith, add-one, append_assoc, Option, if◌then◌else◌}
+use Rattle.std.proofs.Common.{◌≡◌, ℕ, suc, ◌+◌, ◌<◌, ◌≤◌, Bool, true, false, not, List, [], ◌∷◌, ◌++◌, length, filter, drop, get_or, refl, sym, ◌∙◌, ap, arith, add-one, append_assoc, Option, None, Some, if◌then◌else◌}
 use Rattle.vlsi_base.specs.declared.name.Name.{Name}
 use Rattle.vlsi_base.specs.declared.name.Port.{Port}
 use Rattle.vlsi_base.specs.Names.{vss}
-use Rattle.bool_expr.specs.Expression.{bit}
 use Rattle.machine_core.specs.Machine.{is_input}
 use Rattle.net_core.specs.Netlist.{port}
-use Rattle.subject_table.specs.declared.table.Node.{Node as Kind}
-use Rattle.subject_table.specs.View.{node_view}
-use Rattle.boog_map.specs.declared.part.Parts.{Parts}
+use Rattle.cell_match.specs.declared.gate.Gate.{Gate}
+use Rattle.boog_map.specs.declared.choice.Parts.{Parts}
 use Rattle.boog_map.specs.declared.ports.PortUse.{PortUse}
 use Rattle.boog_map.specs.declared.ports.PortUse.TheVariants as port_use_of
 use Rattle.boog_map.specs.Draft.{register_spot, register_spots, gate_spot, gate_spots, gate_drivers, output_terminal, port_use, use_signal, inputs_after, outputs_after, HasOutput, tied_ports}
@@ -24,56 +22,32 @@ register_step front k loads load low is =
     ap (register_spots front k) (drop_next loads k load low is)
     ∙ ap (λ (j : ℕ). register_spot front k load ∷ register_spots front j (drop (k + 1) loads)) (sym (add-one k))
 
-module _ (ps : Parts) (marks : List Bool) (number k : ℕ) (nodes : List Kind) (i : ℕ) (x : Kind) (low : i < length nodes) (is : x ≡ get_or nodes i x) where
-  nodes_next : map node_view (drop i nodes) ≡ node_view x ∷ map node_view (drop (i + 1) nodes)
-  nodes_next = ap (map node_view) (drop_next nodes i x low is)
+module _ (ps : Parts) (number k : ℕ) (gs : List (Option Gate)) (i : ℕ) (o : Option Gate) (low : i < length gs) (is : o ≡ get_or gs i o) where
+  abbrev rest : List (Option Gate)
+  rest = drop (i + 1) gs
 
-  pub spots_marked : bit marks number ≡ true
-      → gate_spots marks number k (map node_view (drop i nodes)) ≡ gate_spot k number (node_view x) ∷ gate_spots marks (number + 1) (k + 1) (map node_view (drop (i + 1) nodes))
-  spots_marked marked =
-      ap (gate_spots marks number k) nodes_next
-      ∙ ap
-      (λ (b : Bool).
-      if b then gate_spot k number (node_view x) ∷ gate_spots marks (suc number) (suc k) (map node_view (drop (i + 1) nodes))
-      else gate_spots marks (suc number) k (map node_view (drop (i + 1) nodes)))
-      marked
-      ∙ ap (λ (n : ℕ). gate_spot k number (node_view x) ∷ gate_spots marks n (suc k) (map node_view (drop (i + 1) nodes))) (sym (add-one number))
-      ∙ ap (λ (n : ℕ). gate_spot k number (node_view x) ∷ gate_spots marks (number + 1) n (map node_view (drop (i + 1) nodes))) (sym (add-one k))
+  pub spots_some : (x : Gate) → o ≡ Some x → gate_spots number k (drop i gs) ≡ gate_spot k number x ∷ gate_spots (number + 1) (k + 1) rest
+  spots_some x some =
+      ap (gate_spots number k) (drop_next gs i o low is) ∙ ap (λ (y : Option Gate). gate_spots number k (y ∷ rest)) some
+      ∙ ap (λ (n : ℕ). gate_spot k number x ∷ gate_spots n (suc k) rest) (sym (add-one number))
+      ∙ ap (λ (n : ℕ). gate_spot k number x ∷ gate_spots (number + 1) n rest) (sym (add-one k))
 
-  pub spots_unmarked : bit marks number ≡ false
-      → gate_spots marks number k (map node_view (drop i nodes)) ≡ gate_spots marks (number + 1) k (map node_view (drop (i + 1) nodes))
-  spots_unmarked marked =
-      ap (gate_spots marks number k) nodes_next
-      ∙ ap
-      (λ (b : Bool).
-      if b then gate_spot k number (node_view x) ∷ gate_spots marks (suc number) (suc k) (map node_view (drop (i + 1) nodes))
-      else gate_spots marks (suc number) k (map node_view (drop (i + 1) nodes)))
-      marked
-      ∙ ap (λ (n : ℕ). gate_spots marks n k (map node_view (drop (i + 1) nodes))) (sym (add-one number))
+  pub spots_none : o ≡ None → gate_spots number k (drop i gs) ≡ gate_spots (number + 1) k rest
+  spots_none none =
+      ap (gate_spots number k) (drop_next gs i o low is) ∙ ap (λ (y : Option Gate). gate_spots number k (y ∷ rest)) none
+      ∙ ap (λ (n : ℕ). gate_spots n k rest) (sym (add-one number))
 
-  pub drivers_marked : bit marks number ≡ true
-      → gate_drivers ps marks number k (map node_view (drop i nodes))
-      ≡ output_terminal ps (gate_spot k number (node_view x)) ∷ gate_drivers ps marks (number + 1) (k + 1) (map node_view (drop (i + 1) nodes))
-  drivers_marked marked =
-      ap (gate_drivers ps marks number k) nodes_next
-      ∙ ap
-      (λ (b : Bool).
-      if b then output_terminal ps (gate_spot k number (node_view x)) ∷ gate_drivers ps marks (suc number) (suc k) (map node_view (drop (i + 1) nodes))
-      else port vss ∷ gate_drivers ps marks (suc number) k (map node_view (drop (i + 1) nodes)))
-      marked
-      ∙ ap (λ (n : ℕ). output_terminal ps (gate_spot k number (node_view x)) ∷ gate_drivers ps marks n (suc k) (map node_view (drop (i + 1) nodes))) (sym (add-one number))
-      ∙ ap (λ (n : ℕ). output_terminal ps (gate_spot k number (node_view x)) ∷ gate_drivers ps marks (number + 1) n (map node_view (drop (i + 1) nodes))) (sym (add-one k))
+  pub drivers_some : (x : Gate) → o ≡ Some x
+      → gate_drivers ps number k (drop i gs) ≡ output_terminal ps (gate_spot k number x) ∷ gate_drivers ps (number + 1) (k + 1) rest
+  drivers_some x some =
+      ap (gate_drivers ps number k) (drop_next gs i o low is) ∙ ap (λ (y : Option Gate). gate_drivers ps number k (y ∷ rest)) some
+      ∙ ap (λ (n : ℕ). output_terminal ps (gate_spot k number x) ∷ gate_drivers ps n (suc k) rest) (sym (add-one number))
+      ∙ ap (λ (n : ℕ). output_terminal ps (gate_spot k number x) ∷ gate_drivers ps (number + 1) n rest) (sym (add-one k))
 
-  pub drivers_unmarked : bit marks number ≡ false
-      → gate_drivers ps marks number k (map node_view (drop i nodes)) ≡ port vss ∷ gate_drivers ps marks (number + 1) k (map node_view (drop (i + 1) nodes))
-  drivers_unmarked marked =
-      ap (gate_drivers ps marks number k) nodes_next
-      ∙ ap
-      (λ (b : Bool).
-      if b then output_terminal ps (gate_spot k number (node_view x)) ∷ gate_drivers ps marks (suc number) (suc k) (map node_view (drop (i + 1) nodes))
-      else port vss ∷ gate_drivers ps marks (suc number) k (map node_view (drop (i + 1) nodes)))
-      marked
-      ∙ ap (λ (n : ℕ). port vss ∷ gate_drivers ps marks n k (map node_view (drop (i + 1) nodes))) (sym (add-one number))
+  pub drivers_none : o ≡ None → gate_drivers ps number k (drop i gs) ≡ port vss ∷ gate_drivers ps (number + 1) k rest
+  drivers_none none =
+      ap (gate_drivers ps number k) (drop_next gs i o low is) ∙ ap (λ (y : Option Gate). gate_drivers ps number k (y ∷ rest)) none
+      ∙ ap (λ (n : ℕ). port vss ∷ gate_drivers ps n k rest) (sym (add-one number))
 
 -- ---- ports
 

@@ -1,5 +1,5 @@
 -- The draft of a mapped netlist: its ports and instances with the signal of each terminal.
-use Rattle.std.specs.Prelude.{◌≡◌, ℕ, ◌+◌, ◌<◌, ◌^◌, Bool, true, false, List, [], ◌∷◌, ◌++◌, map, length, Option, slice_index_or, unwrap_or, if◌then◌else◌}
+use Rattle.std.specs.Prelude.{◌≡◌, ℕ, ◌+◌, ◌<◌, ◌^◌, List, [], ◌∷◌, ◌++◌, map, length, Option, None, Some, slice_index_or, unwrap_or, if◌then◌else◌}
 use Prim.Native.Nat.{suc}
 use Rattle.std.specs.List.{flat_map}
 use Rattle.vlsi_base.specs.declared.name.Name.{Name}
@@ -7,20 +7,19 @@ use Rattle.vlsi_base.specs.declared.name.Port.{Port}
 use Rattle.vlsi_base.specs.declared.name.Terminal.{Terminal}
 use Rattle.vlsi_base.specs.Names.{vdd, vss}
 use Rattle.vlsi_base.specs.Member.{In}
-use Rattle.bool_expr.specs.Expression.{bit}
 use Rattle.machine_core.specs.Machine.{is_input, is_clock}
 use Rattle.machine_core.specs.Named.{is_same_name}
-use Rattle.vlsi_base.specs.declared.kind.Kind.TheVariants as kind
 use Rattle.net_core.specs.Places.{IsThere, NoneTwice}
 use Rattle.net_core.specs.Netlist.{Instance, port, pin_of, terminals_of, AreInOrder}
 use Rattle.net_core.specs.Joins.{Draft}
 use Rattle.net_meaning.specs.Agreement.{register_instance}
 use Rattle.net_meaning.specs.Well.{gate_instance}
 use Rattle.net_theory.specs.Sources.{Source, high, low, ticking, node}
-use Rattle.graph_theory.specs.Graph.{Node, fixed, inv, nand}
+use Rattle.cell_match.specs.declared.gate.Gate.{Gate}
 use Rattle.boog_map.specs.declared.part.Tie.{Tie}
 use Rattle.boog_map.specs.declared.part.Tie.TheVariants as tie
-use Rattle.boog_map.specs.declared.part.Parts.{Parts}
+use Rattle.boog_map.specs.declared.choice.Role.TheVariants as role
+use Rattle.boog_map.specs.declared.choice.Parts.{Parts}
 use Rattle.boog_map.specs.declared.place.Signal.{Signal}
 use Rattle.boog_map.specs.declared.place.Signal.TheVariants as signal
 use Rattle.boog_map.specs.declared.place.Spot.{Spot}
@@ -80,47 +79,43 @@ tied_ports clock outs i o (p ∷ ps) =
 
 -- ---- instances
 
--- the instance of register k, where the first register has number `front`
+-- the instance of register k, where the first register has number `front`; it reads what it loads, and the clock
+abbrev pub register_reads : ℕ → List Signal
+register_reads load = signal.Node load ∷ signal.Clock ∷ []
+
 abbrev pub register_spot : ℕ → ℕ → ℕ → Spot
-register_spot front k load = record {
-  name = register_instance k;
-  kind = kind.Dff;
-  shown = front + k;
-  first = signal.Node load;
-  second = signal.Clock;
-}
+register_spot front k load = record { name = register_instance k; role = role.Register; shown = front + k; reads = register_reads load }
 
 -- the instances of registers by what they load, the first of which is register k
 abbrev pub register_spots : ℕ → ℕ → List ℕ → List Spot
 register_spots front k [] = []
 register_spots front k (load ∷ rest) = register_spot front k load ∷ register_spots front (suc k) rest
 
--- the instance of a node of this number, as gate k
-abbrev pub gate_spot : ℕ → ℕ → Node → Spot
-gate_spot k number (fixed false) = record { name = gate_instance k; kind = kind.Zero; shown = number; first = signal.Low; second = signal.Low }
-gate_spot k number (fixed true) = record { name = gate_instance k; kind = kind.One; shown = number; first = signal.Low; second = signal.Low }
-gate_spot k number (inv a) = record { name = gate_instance k; kind = kind.Inv; shown = number; first = signal.Node a; second = signal.Node a }
-gate_spot k number (nand a b) = record { name = gate_instance k; kind = kind.Nand2; shown = number; first = signal.Node a; second = signal.Node b }
+abbrev pub node_signals : List ℕ → List Signal
+node_signals numbers = map (λ a. signal.Node a) numbers
 
--- the instances of the nodes that are marked, from gate k on, where the first node has this number
-abbrev pub gate_spots : List Bool → ℕ → ℕ → List Node → List Spot
-gate_spots marks number k [] = []
-gate_spots marks number k (one ∷ rest) =
-    if bit marks number then gate_spot k number one ∷ gate_spots marks (suc number) (suc k) rest else gate_spots marks (suc number) k rest
+-- the instance of a gate that stands for the node of this number, as gate k; it reads its leaves
+abbrev pub gate_spot : ℕ → ℕ → Gate → Spot
+gate_spot k number g = record { name = gate_instance k; role = role.Gate g.cell; shown = number; reads = node_signals g.leaves.items }
+
+-- the instances of the nodes that have a gate, from gate k on, where the first node has this number
+abbrev pub gate_spots : ℕ → ℕ → List (Option Gate) → List Spot
+gate_spots number k [] = []
+gate_spots number k (None ∷ rest) = gate_spots (suc number) k rest
+gate_spots number k (Some g ∷ rest) = gate_spot k number g ∷ gate_spots (suc number) (suc k) rest
 
 -- the output pin of an instance
 abbrev pub output_terminal : Parts → Spot → Terminal
-output_terminal ps s = pin_of s.name (part_of ps s.kind).output
+output_terminal ps s = pin_of s.name (part_of ps s.role).output
 
--- the terminal that shows each node, where vss stands for one that is not marked
-abbrev pub gate_drivers : Parts → List Bool → ℕ → ℕ → List Node → List Terminal
-gate_drivers ps marks number k [] = []
-gate_drivers ps marks number k (one ∷ rest) =
-    if bit marks number then output_terminal ps (gate_spot k number one) ∷ gate_drivers ps marks (suc number) (suc k) rest
-    else port vss ∷ gate_drivers ps marks (suc number) k rest
+-- the terminal that shows each node, where vss stands for one that has no gate
+abbrev pub gate_drivers : Parts → ℕ → ℕ → List (Option Gate) → List Terminal
+gate_drivers ps number k [] = []
+gate_drivers ps number k (None ∷ rest) = port vss ∷ gate_drivers ps (suc number) k rest
+gate_drivers ps number k (Some g ∷ rest) = output_terminal ps (gate_spot k number g) ∷ gate_drivers ps (suc number) (suc k) rest
 
 abbrev pub instance_of : Parts → Spot → Instance
-instance_of ps s = record { name = s.name; model = (part_of ps s.kind).model; pins = (part_of ps s.kind).pins }
+instance_of ps s = record { name = s.name; model = (part_of ps s.role).model; pins = (part_of ps s.role).pins }
 
 -- ---- signals
 
@@ -129,15 +124,14 @@ abbrev pub tied_signal : Spot → Tie → Signal
 tied_signal s tie.High = signal.High
 tied_signal s tie.Low = signal.Low
 tied_signal s tie.Shown = signal.Node s.shown
-tied_signal s tie.First = s.first
-tied_signal s tie.Second = s.second
+tied_signal s (tie.Read place) = slice_index_or s.reads place signal.Low
 
 -- terminals with their signals
 abbrev pub port_signals : List TiedPort → List (Terminal × Signal)
 port_signals ports = map (λ p. (port p.name, p.signal)) ports
 
 abbrev pub spot_signals : Parts → Spot → List (Terminal × Signal)
-spot_signals ps s = map (λ p. (pin_of s.name p.name, tied_signal s p.tie)) (part_of ps s.kind).ties.items
+spot_signals ps s = map (λ p. (pin_of s.name p.name, tied_signal s p.tie)) (part_of ps s.role).ties.items
 
 abbrev pub all_signals : Sketch → List (Terminal × Signal)
 all_signals k = port_signals k.ports.items ++ flat_map (spot_signals k.parts) k.spots.items
@@ -198,7 +192,7 @@ draft_by name ports k = record {
 -- what the parts of a draft have to be
 pub record IsDrawable (ports : List Port) (k : Sketch) : Type 0 where
   pub order : AreInOrder (map (λ p. p.name) ports)
-  pub pins : (s : Spot) → In s k.spots.items → AreInOrder (part_of k.parts s.kind).pins
+  pub pins : (s : Spot) → In s k.spots.items → AreInOrder (part_of k.parts s.role).pins
   pub names : NoneTwice (map (λ s. s.name) k.spots.items)
   pub many : length k.spots.items < 2 ^ 32
   pub few : length (terminals_of ports (map (instance_of k.parts) k.spots.items)) < 2 ^ 32
@@ -207,7 +201,7 @@ pub record IsDrawable (ports : List Port) (k : Sketch) : Type 0 where
 -- instances can be put behind those of a draft that has none
 pub record IsPlaceable (d : Draft) (ps : Parts) (spots : List Spot) : Type 0 where
   pub none : d.instances ≡ []
-  pub pins : (s : Spot) → In s spots → AreInOrder (part_of ps s.kind).pins
+  pub pins : (s : Spot) → In s spots → AreInOrder (part_of ps s.role).pins
   pub names : NoneTwice (map (λ s. s.name) spots)
   pub many : length spots < 2 ^ 32
   pub few : length (terminals_of d.ports (map (instance_of ps) spots)) < 2 ^ 32

@@ -1,5 +1,5 @@
 -- The stages of mapping.
-use Rattle.std.specs.Prelude.{◌≡◌, Bool, List, ◌++◌, map, length}
+use Rattle.std.specs.Prelude.{◌≡◌, ℕ, List, ◌++◌, map, length, drop, Option}
 use Rattle.vlsi_base.specs.declared.name.Terminal.{Terminal}
 use Rattle.vlsi_base.specs.Names.{vdd, vss}
 use Rattle.machine_core.specs.Machine.{Machine, inputs}
@@ -8,36 +8,40 @@ use Rattle.cell_pins.specs.Pins.{with_supply}
 use Rattle.net_core.specs.Netlist.{Netlist as InMemory, IsNetlist, port}
 use Rattle.net_right.specs.Right.{IsRightNetlist, HasPinsOfCells}
 use Rattle.graph_theory.specs.Graph.{Graph, held_count}
-use Rattle.boog_map.specs.declared.part.Parts.{Parts}
+use Rattle.cell_match.specs.declared.gate.Gate.{Gate}
+use Rattle.boog_map.specs.declared.choice.Parts.{Parts}
 use Rattle.boog_map.specs.declared.place.Plan.{Plan}
 use Rattle.boog_map.specs.declared.place.Spot.{Spot}
 use Rattle.boog_map.specs.declared.build.Sketch.{Sketch}
-use Rattle.boog_map.specs.Reached.{AreReached}
 use Rattle.boog_map.specs.Draft.{register_spots, gate_spots, gate_drivers, output_terminal, tied_ports, AreDrivers}
 use Rattle.boog_map.specs.Netlist.{StandsInOrder, HasOneCellAtMost, HasFewInputs, IsLeanFor, IsTightFor}
 
--- the instances of registers and of marked nodes
-abbrev pub spots_of : Machine → Graph → List Bool → List Spot
-spots_of m g marks = register_spots (length (inputs m)) 0 g.loads ++ gate_spots marks (held_count m) 0 g.nodes
+-- what outputs show and registers load
+abbrev pub root_numbers : Graph → List ℕ
+root_numbers g = g.outputs ++ g.loads
+
+-- the gates of the nodes behind inputs and registers
+abbrev pub node_gates : Machine → List (Option Gate) → List (Option Gate)
+node_gates m gates = drop (held_count m) gates
+
+-- the instances of registers and of gates
+abbrev pub spots_of : Machine → Graph → List (Option Gate) → List Spot
+spots_of m g gates = register_spots (length (inputs m)) 0 g.loads ++ gate_spots (held_count m) 0 (node_gates m gates)
 
 -- the terminals that show inputs, registers and nodes
-abbrev pub drivers_of : Machine → Graph → Parts → List Bool → List Terminal
-drivers_of m g ps marks =
+abbrev pub drivers_of : Machine → Graph → Parts → List (Option Gate) → List Terminal
+drivers_of m g ps gates =
     map port (inputs m)
-    ++ (map (output_terminal ps) (register_spots (length (inputs m)) 0 g.loads) ++ gate_drivers ps marks (held_count m) 0 g.nodes)
+    ++ (map (output_terminal ps) (register_spots (length (inputs m)) 0 g.loads) ++ gate_drivers ps (held_count m) 0 (node_gates m gates))
 
-pub record IsPlan (m : Machine) (g : Graph) (ps : Parts) (plan : Plan) : Type 0 where
-  pub marks : List Bool
-  pub reached : AreReached (held_count m) g marks
-  pub spots : plan.spots.items ≡ spots_of m g marks
-  pub drivers : plan.drivers.items ≡ drivers_of m g ps marks
+pub record IsPlan (m : Machine) (g : Graph) (ps : Parts) (gates : List (Option Gate)) (plan : Plan) : Type 0 where
+  pub spots : plan.spots.items ≡ spots_of m g gates
+  pub drivers : plan.drivers.items ≡ drivers_of m g ps gates
 
-pub record IsSketch (m : Machine) (g : Graph) (ps : Parts) (k : Sketch) : Type 0 where
+pub record IsSketch (m : Machine) (g : Graph) (ps : Parts) (gates : List (Option Gate)) (k : Sketch) : Type 0 where
   pub parts : k.parts ≡ ps
-  pub marks : List Bool
-  pub reached : AreReached (held_count m) g marks
-  pub spots : k.spots.items ≡ spots_of m g marks
-  pub drivers : AreDrivers m.clock (drivers_of m g ps marks) k.drivers
+  pub spots : k.spots.items ≡ spots_of m g gates
+  pub drivers : AreDrivers m.clock (drivers_of m g ps gates) k.drivers
   pub ports : k.ports.items ≡ tied_ports m.clock g.outputs 0 0 (with_supply vss (with_supply vdd m.ports))
 
 -- what is known of the netlist

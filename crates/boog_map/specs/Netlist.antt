@@ -1,18 +1,17 @@
 -- What mapping asks of a machine and of a library, and what it gives beside a right netlist.
-use Rattle.std.specs.Prelude.{◌≡◌, ◌==◌, ◌↔◌, ℕ, ◌+◌, ◌*◌, ◌^◌, ◌<◌, ◌≤◌, Bool, not, List, length, Some, slice_get, IsTrue, filter, sum_by}
+use Rattle.std.specs.Prelude.{◌≡◌, ◌==◌, ◌↔◌, ℕ, ◌+◌, ◌*◌, ◌^◌, ◌<◌, ◌≤◌, Bool, not, List, length, IsTrue, filter, sum_by}
 use Rattle.vlsi_base.specs.Member.{In}
 use Rattle.bool_expr.specs.Expression.{bit}
 use Rattle.machine_core.specs.Machine.{Machine}
 use Rattle.machine_core.specs.Size.{machine_size}
 use Rattle.vlsi_base.specs.declared.kind.Kind.{Kind}
-use Rattle.cell_model.specs.Cell.{Cell}
-use Rattle.cell_model.specs.Library.{Library, IsUsable}
-use Rattle.cell_model.specs.Covering.{HasKind, HasCellOf, needed, IsFirstMissing}
+use Rattle.cell_model.specs.Library.{Library}
+use Rattle.cell_model.specs.Covering.{HasCellOf, needed, IsFirstMissing}
 use Rattle.net_core.specs.Netlist.{Netlist as InMemory}
 use Rattle.net_meaning.specs.Netlist.{AbstractNetlist}
 use Rattle.net_right.specs.View.{IsSeenAs}
-use Rattle.net_tight.specs.Tight.{IsTight}
 use Rattle.net_meaning.specs.Order.{IsInNetlistOrder, IsLean}
+use Rattle.net_tight.specs.Tight.{IsTight}
 use Rattle.graph_theory.specs.Graph.{Graph, held_count}
 use Rattle.boog_map.specs.declared.error.MapError.{MapError}
 use Rattle.boog_map.specs.declared.error.MapError.TheVariants as error
@@ -34,14 +33,6 @@ abbrev pub IsMapRefusal : Library → Machine → MapError → Type 0
 IsMapRefusal l m error.Memory = Unit {0}
 IsMapRefusal l m (error.NoCover k) = IsFirstMissing l.cells k (needed (has_registers m))
 
--- the first usable cell of a kind
-pub record IsChosen (cells : List Cell) (k : Kind) (c : Cell) : Type 0 where
-  pub place : ℕ
-  pub stands : slice_get cells place ≡ Some c
-  pub usable : IsUsable c
-  pub kind : HasKind c k
-  pub first : (j : ℕ) (d : Cell) → j < place → slice_get cells j ≡ Some d → IsUsable d → HasKind d k → ⊥
-
 -- its instances stand in the order of a netlist: q0, q1 and so on, then g0, g1 and so on, each gate after those
 -- that it reads
 abbrev pub StandsInOrder : InMemory → Library → Machine → Type 0
@@ -54,16 +45,15 @@ pub record HasOneCellAtMost (n : InMemory) (m : Machine) (g : Graph) : Type 0 wh
   pub each : (j : ℕ) → j < length g.nodes → IsTrue (bit reached j) ↔ IsReached (held_count m) g (held_count m + j)
   pub count : length n.instances ≤ length m.registers + length (filter (λ b. b) reached)
 
--- beside an output and two supplies each instance has its inputs, and there are at most two of these for each register and each node
--- of the graph
+-- beside an output and two supplies each instance has its inputs, and there are at most two of these for each register and each
+-- node of the graph
 abbrev pub HasFewInputs : InMemory → Machine → Graph → Type 0
-HasFewInputs n m g =
-    sum_by (λ i. length i.pins) n.instances ≤ 3 * length n.instances + 2 * (length m.registers + length g.nodes)
-
--- no usable cell could stand for two gates, however the netlist is seen
-abbrev pub IsTightFor : InMemory → Library → Type 0
-IsTightFor n l = (k : AbstractNetlist) → IsSeenAs n k → IsTight k l
+HasFewInputs n m g = sum_by (λ i. length i.pins) n.instances ≤ 3 * length n.instances + 2 * (length m.registers + length g.nodes)
 
 -- so at most 2 more gates than the machine's size
 abbrev pub IsLeanFor : InMemory → Machine → Type 0
 IsLeanFor n m = (k : AbstractNetlist) → IsSeenAs n k → IsLean k m
+
+-- no usable cell could stand for two gates, however the netlist is seen
+abbrev pub IsTightFor : InMemory → Library → Type 0
+IsTightFor n l = (k : AbstractNetlist) → IsSeenAs n k → IsTight k l

@@ -1,15 +1,9 @@
 -- The nodes of a graph that its roots need.
-use Rattle.std.specs.Prelude.{◌≡◌, ◌==◌, ◌↔◌, ℕ, ◌+◌, Bool, false, ◌||◌, List, length, IsTrue}
+use Rattle.std.specs.Prelude.{ℕ, ◌+◌, IsTrue}
 use Rattle.vlsi_base.specs.Member.{In}
-use Rattle.bool_expr.specs.Expression.{bit}
 use Rattle.net_theory.specs.Sources.{IsNumber}
-use Rattle.graph_theory.specs.Graph.{Node, fixed, inv, nand, Graph}
-
--- a node reads a number
-abbrev pub reads : Node → ℕ → Bool
-reads (fixed b) a = false
-reads (inv x) a = x == a
-reads (nand x y) a = x == a || y == a
+use Rattle.graph_theory.specs.Graph.{Node, Graph}
+use Rattle.boog_cuts.specs.Reads.{reads}
 
 -- A number is reached from a root: an output shows it or a register loads it, or a node that is reached reads it. The first
 -- node of the list has number `held`.
@@ -18,8 +12,3 @@ pub data IsReached (held : ℕ) (g : Graph) : ℕ → Type 0 where
   loaded : {a : ℕ} → In a g.loads → IsReached held g a
   read : {a : ℕ} (j : ℕ) (kind : Node) → IsReached held g (held + j) → IsNumber g.nodes j kind → IsTrue (reads kind a)
       → IsReached held g a
-
--- the marks are those of the numbers that are reached
-pub record AreReached (held : ℕ) (g : Graph) (marks : List Bool) : Type 0 where
-  pub many : length marks ≡ held + length g.nodes
-  pub each : (a : ℕ) → IsTrue (bit marks a) ↔ IsReached held g a

@@ -9,8 +9,9 @@ ghost use Rattle.net_core.specs.Joins.{draft_terminals, with_join, IsFinished};
 ghost use Rattle.boog_map.specs.Tied.{part_of};
 ghost use Rattle.boog_map.specs.Draft.{instance_of, port_signals, spot_signals, tied_signal, driver, IsNumbered, join_of, with_instances, with_joins, CanJoin, draft_by, IsDrawable, IsPlaceable};
 
+use crate::choice::Parts;
 use crate::drivers::Drivers;
-use crate::part::{Parts, Tie};
+use crate::part::Tie;
 use crate::place::{Signal, Spot};
 use crate::ports::TiedPort;
 use net_core::{BuildError, Builder, Netlist};
@@ -47,7 +48,7 @@ fn add_spots(
     ensures { OnOk result (builder.new ≡ with_instances builder.old (map (instance_of parts.now) spots.now)) }
 {
     for spot in spots {
-        let part = parts.of(spot.kind);
+        let part = parts.of(spot.role);
         match builder.add(alloc, &spot.name, &part.model, &part.pins) {
             Ok(_) => {}
             Err(error) => return Err(only_memory(error)),
@@ -100,8 +101,10 @@ fn tied_signal(spot: &Spot, tie: Tie) -> Signal
         Tie::High => Signal::High,
         Tie::Low => Signal::Low,
         Tie::Shown => Signal::Node(spot.shown),
-        Tie::First => spot.first,
-        Tie::Second => spot.second,
+        Tie::Read(place) => match spot.reads.as_slice().get(place) {
+            Some(signal) => *signal,
+            None => Signal::Low,
+        },
     }
 }
 
@@ -115,7 +118,7 @@ fn join_pins(
     requires { CanJoin (draft_terminals builder.now) drivers.now (spot_signals parts.now spot.now) }
     ensures { OnOk result (builder.new ≡ with_joins builder.old (map (join_of drivers.now) (spot_signals parts.now spot.now))) }
 {
-    let part = parts.of(spot.kind);
+    let part = parts.of(spot.role);
     for pin in &part.ties {
         let terminal = Terminal {
             instance: Some(spot.name.copy(alloc)?),

@@ -1,66 +1,55 @@
-// Plain technology mapping.
-ghost use Rattle.std.specs.Prelude.{◌≡◌, ◌++◌, ◌<◌, ◌^◌, map, length, IfOk, OnOk, IfErr};
+// Technology mapping.
+ghost use Rattle.std.specs.Prelude.{◌≡◌, ◌++◌, ◌+◌, ◌<◌, ◌^◌, map, length, IfOk, OnOk, IfErr};
 ghost use Rattle.net_right.specs.Right.{IsRightNetlist, HasPinsOfCells};
 ghost use Rattle.net_core.specs.Netlist.{IsNetlist};
 ghost use Rattle.graph_theory.specs.Graph.{held_count};
 ghost use Rattle.subject_graph.specs.Subject.{IsSubjectGraph};
-ghost use Rattle.boog_map.specs.Netlist.{HasRoomForCells, Covers, IsMapRefusal, StandsInOrder, HasOneCellAtMost, HasFewInputs, IsLeanFor, IsTightFor, has_registers};
-ghost use Rattle.boog_map.specs.Mapped.{IsPlan, IsSketch, IsMapped};
+ghost use Rattle.boog_cover.specs.Covered.{IsCovered};
+ghost use Rattle.boog_map.specs.Tied.{gate_words};
+ghost use Rattle.boog_map.specs.Netlist.{HasRoomForCells, Covers, IsMapRefusal, StandsInOrder, HasOneCellAtMost, HasFewInputs, IsLeanFor, IsTightFor};
+ghost use Rattle.boog_map.specs.Mapped.{root_numbers, IsPlan, IsSketch, IsMapped};
 
 use crate::MapError;
 use crate::build::{Sketch, build};
+use crate::choice::{Parts, chosen_parts};
+use crate::count::{has_registers, held_count};
+use crate::covering::covering;
 use crate::drivers::{input_ports, make_drivers};
-use crate::part::{Parts, chosen_parts};
 use crate::place::Plan;
 use crate::ports::tied_ports;
-use crate::reach::reached;
 use cell_checks::Library;
+use cell_match::Gate;
 use cell_model::first_missing;
 use cell_pins::with_supplies;
+use gate_cells::gate_cells;
 use machine_core::Machine;
 use net_core::Netlist;
 use std::alloc::{AllocError, Global};
 use subject_graph::Graph;
 use vlsi_base::Listed;
 
-fn has_registers(machine: &Machine) -> bool
-    ensures { result ≡ has_registers machine.now }
-{
-    !machine.registers().as_slice().is_empty()
-}
-
-/// How many inputs and registers there are.
-#[tactic(auto, using(crate::proofs::Rooms::few_inputs))]
-fn held_count(machine: &Machine) -> u32
-    requires { HasRoomForCells machine.now }
-    ensures { result ≡ held_count machine.now }
-{
-    (machine.vars().as_slice().len() - machine.equations().as_slice().len()) as u32
-}
-
-/// The instances of a machine's registers and of the nodes that are reached.
+/// The instances of a machine's registers and of the gates of its nodes.
 fn planned(
     alloc: Global,
     machine: &Machine,
     graph: &Graph,
     parts: &Parts,
+    gates: &[Option<Gate>],
 ) -> Result<Plan, AllocError>
     requires graph { IsSubjectGraph machine.now graph.now }
     requires few { HasRoomForCells machine.now }
-    ensures { IfOk result (λ plan. IsPlan machine.now graph.now parts.now plan) }
+    requires long { length gates.now ≡ held_count machine.now + length graph.now.nodes }
+    ensures { IfOk result (λ plan. IsPlan machine.now graph.now parts.now gates.now plan) }
 {
-    let held = held_count(machine);
-    let marks = reached(alloc, graph, held)?;
+    let held = held_count(machine) as usize;
     let loads = graph.loads();
-    let inputs = held as usize - loads.len();
-    let names = &machine.vars().as_slice()[..inputs];
-    let drivers = input_ports(alloc, names)?;
+    let names = &machine.vars().as_slice()[..held - loads.len()];
     let mut plan = Plan {
         spots: Vec::new(alloc),
-        drivers,
+        drivers: input_ports(alloc, names)?,
     };
     plan.put_registers(alloc, parts, loads)?;
-    plan.put_nodes(alloc, parts, graph.nodes(), &marks)?;
+    plan.put_gates(alloc, parts, &gates[held..])?;
     Ok(plan)
 }
 
@@ -69,12 +58,14 @@ fn sketched(
     machine: &Machine,
     graph: &Graph,
     parts: Parts,
+    gates: &[Option<Gate>],
 ) -> Result<Sketch, AllocError>
     requires graph { IsSubjectGraph machine.now graph.now }
     requires few { HasRoomForCells machine.now }
-    ensures { IfOk result (λ k. IsSketch machine.now graph.now parts k) }
+    requires long { length gates.now ≡ held_count machine.now + length graph.now.nodes }
+    ensures { IfOk result (λ k. IsSketch machine.now graph.now parts gates.now k) }
 {
-    let Plan { spots, drivers } = planned(alloc, machine, graph, &parts)?;
+    let Plan { spots, drivers } = planned(alloc, machine, graph, &parts, gates)?;
     let drivers = make_drivers(alloc, machine.clock(), drivers)?;
     let all = with_supplies(alloc, machine.ports().as_slice())?;
     let ports = tied_ports(alloc, machine.clock(), graph.outputs(), &all)?;
@@ -98,20 +89,23 @@ pub fn map_covered(
     requires covered { Covers library.now machine.now }
     ensures { IfOk result (λ n. IsMapped n library.now machine.now graph.now) }
 {
-    let parts = chosen_parts(alloc, library.cells(), has_registers(machine))?;
-    let sketch = sketched(alloc, machine, graph, parts)?;
+    let cells = gate_cells(alloc, library)?;
+    let parts = chosen_parts(alloc, library.cells(), cells, has_registers(machine))?;
+    let gates = covering(alloc, machine, graph, &parts)?;
+    let sketch = sketched(alloc, machine, graph, parts, &gates)?;
     let name = machine.name().copy(alloc)?;
     let ports = with_supplies(alloc, machine.ports().as_slice())?;
     build(alloc, name, Listed::new(ports), &sketch)
 }
 
-/// Maps a machine to cells of a library, from its subject graph. For each kind of node, and for registers, the first usable
-/// cell in the library's order is taken. The registers in the order of names are q0, q1 and so on; behind them the nodes that
-/// an output or a register needs are g0, g1 and so on, in the order of the graph, each with one cell. It is refused by
-/// `NoCover` exactly where the library has no usable cell of a kind, whether the machine has such a node or not; a flip-flop is
-/// needed for registers alone. The machine must be small enough that its netlist has fewer than 2^32 pins. Takes memory for the
-/// netlist, and meanwhile for each node and each pair of joined terminals; time for each terminal, times the logarithm of their
-/// number, and once for each cell of the library.
+/// Maps a machine to cells of a library, from its subject graph. Its gates are covered by any usable gates of the library, of least
+/// width as far as a heuristic finds it, and no usable cell could stand for two of them. For registers the first usable flip-flop in
+/// the library's order is taken. The registers in the order of names are q0, q1 and so on; behind them the gates are g0, g1 and so on,
+/// in the order of the nodes that they show: at most one for each node that an output or a register needs. It is refused by `NoCover`
+/// exactly where the library has no usable cell of a kind, whether the machine has such a node or not; a flip-flop is needed for
+/// registers alone. The machine must be small enough that its netlist has fewer than 2^32 pins. Takes memory for the netlist, and
+/// meanwhile for the cuts of each node, for each pair of joined terminals, and for the orders of each cell's inputs; time for each
+/// node and terminal, times the logarithm of their number, and for the cells' orders.
 pub fn map(
     alloc: Global,
     machine: &Machine,

@@ -1,20 +1,13 @@
-// The cells that a netlist is made of, and what their pins are tied to.
-ghost use Rattle.std.specs.Prelude.{◌≡◌, ◌↔◌, ◌∷◌, [], map, filter, not, length, slice_get, IsTrue, IfOk, All, if◌then◌else◌};
-ghost use Rattle.std.specs.Option.{option_copied};
-ghost use Rattle.vlsi_base.specs.Member.{In};
+// Cells as a netlist uses them, and what their pins are tied to.
+ghost use Rattle.std.specs.Prelude.{◌≡◌, ◌∷◌, [], map, filter, not, length, IfOk};
 ghost use Rattle.vlsi_base.specs.Names.{scalar};
 ghost use Rattle.machine_core.specs.Machine.{is_input, names_of};
 ghost use Rattle.machine_core.specs.Named.{is_same_name};
-ghost use Rattle.cell_model.specs.Cell.{cell_outputs};
-ghost use Rattle.vlsi_base.specs.declared.kind.Kind.{Kind};
-ghost use Rattle.cell_model.specs.Covering.{HasKind, HasCellOf, needed};
+ghost use Rattle.cell_model.specs.Cell.{cell_inputs};
 ghost use Rattle.cell_model.specs.Library.{IsUsable};
-ghost use Rattle.cell_model.specs.Usable.{IsFormed};
-ghost use Rattle.cell_model.specs.Connectors.{PinsAreConnectors};
-ghost use Rattle.boog_map.specs.Netlist.{IsChosen};
-ghost use Rattle.boog_map.specs.Tied.{is_pin, first_of, tie_of, tied_pin, part_of, IsPart, IsPartOf, AreParts};
+ghost use Rattle.boog_map.specs.Tied.{read_pins, name_place, tie_of, tied_pin, IsPart};
 
-use cell_model::{Cell, Function, Kind, Pin, kind_of, usable};
+use cell_model::{Cell, Function, Pin};
 use cell_pins::{all_ports, is_scalar};
 use std::alloc::{AllocError, Global};
 use vlsi_base::{Dir, Name, Names, Port, Text};
@@ -26,10 +19,8 @@ pub(crate) enum Tie {
     Low,
     /// The node that the cell shows.
     Shown,
-    /// The first of what the cell reads: the first input of a gate, or what a flip-flop loads.
-    First,
-    /// The second: the second input of a gate, or the clock of a flip-flop.
-    Second,
+    /// What the cell reads at this place.
+    Read(usize),
 }
 
 /// A pin, and what it is tied to.
@@ -49,31 +40,6 @@ pub(crate) struct Part {
     pub(crate) output: Name,
 }
 
-/// The cells that a netlist is made of, by what they compute.
-#[derive(Drop)]
-pub(crate) struct Parts {
-    pub(crate) inv: Part,
-    pub(crate) nand2: Part,
-    pub(crate) zero: Part,
-    pub(crate) one: Part,
-    pub(crate) dff: Part,
-}
-
-impl Parts {
-    /// The cell of a kind. Takes no memory.
-    pub(crate) fn of(&self, kind: Kind) -> &Part
-        ensures { result.now ≡ part_of self.now kind }
-    {
-        match kind {
-            Kind::Inv => &self.inv,
-            Kind::Nand2 => &self.nand2,
-            Kind::Zero => &self.zero,
-            Kind::One => &self.one,
-            Kind::Dff => &self.dff,
-        }
-    }
-}
-
 /// Whether the two are one name.
 pub(crate) fn is_same(a: &Name, b: &Name) -> bool
     ensures { result ≡ is_same_name a.now b.now }
@@ -88,38 +54,51 @@ pub(crate) fn is_named(name: &Name, text: &[u8]) -> bool
     is_scalar(name, text)
 }
 
-fn first_input(pins: &[Pin]) -> Option<&Name>
-    ensures { option_copied result ≡ slice_get (names_of (filter (λ p. is_input p.dir) (map (λ p. p.port) pins.now))) 0 }
+fn input_names(alloc: Global, pins: &[Pin]) -> Result<Vec<Name>, AllocError>
+    ensures { IfOk result (λ names. names.items ≡ names_of (filter (λ p. is_input p.dir) (map (λ p. p.port) pins.now))) }
 {
+    let mut names = Vec::new(alloc);
     for pin in pins {
         if pin.port.dir == Dir::In {
-            return Some(&pin.port.name);
+            names.push(pin.port.name.copy(alloc)?)?;
         }
     }
-    None
+    Ok(names)
 }
 
-/// The pin that the first of what a cell reads goes to.
-fn first_pin(cell: &Cell) -> Option<&Name>
-    ensures { option_copied result ≡ first_of cell.now }
+fn both_names(alloc: Global, first: &Name, second: &Name) -> Result<Vec<Name>, AllocError>
+    ensures { IfOk result (λ names. names.items ≡ first.now ∷ second.now ∷ []) }
+{
+    let mut names = Vec::new(alloc);
+    names.push(first.copy(alloc)?)?;
+    names.push(second.copy(alloc)?)?;
+    Ok(names)
+}
+
+/// The pins that a cell reads: of a gate its inputs in the order of names, of a flip-flop the data pin and then the clock pin.
+fn read_pins(alloc: Global, cell: &Cell) -> Result<Vec<Name>, AllocError>
+    ensures { IfOk result (λ names. names.items ≡ read_pins cell.now) }
 {
     match cell.function.as_enum() {
-        Function::FlipFlop { data, .. } => Some(data),
-        _ => first_input(cell.pins.as_slice()),
+        Function::FlipFlop { data, clock } => both_names(alloc, data, clock),
+        _ => input_names(alloc, cell.pins.as_slice()),
     }
 }
 
-fn is_pin(pin: Option<&Name>, name: &Name) -> bool
-    ensures { result ≡ is_pin (option_copied pin.entry) name.now }
+/// The first place of a name, or how many there are where it isn't among them.
+fn name_place(name: &Name, names: &[Name]) -> usize
+    ensures { result ≡ name_place name.now names.now }
 {
-    match pin {
-        Some(pin) => is_same(pin, name),
-        None => false,
+    for (place, other) in names.iter().enumerate() {
+        if is_same(other, name) {
+            return place;
+        }
     }
+    names.len()
 }
 
-fn tie_of(first: Option<&Name>, port: &Port) -> Tie
-    ensures { result ≡ tie_of (option_copied first.entry) port.now }
+fn tie_of(reads: &[Name], port: &Port) -> Tie
+    ensures { result ≡ tie_of reads.now port.now }
 {
     if is_named(&port.name, b"vdd") {
         return Tie::High;
@@ -130,23 +109,16 @@ fn tie_of(first: Option<&Name>, port: &Port) -> Tie
     if port.dir == Dir::Out {
         return Tie::Shown;
     }
-    if is_pin(first, &port.name) {
-        return Tie::First;
-    }
-    Tie::Second
+    Tie::Read(name_place(&port.name, reads))
 }
 
-fn tied_pins(
-    alloc: Global,
-    first: Option<&Name>,
-    ports: &[Port],
-) -> Result<Vec<TiedPin>, AllocError>
-    ensures { IfOk result (λ ties. ties.items ≡ map (tied_pin (option_copied first.entry)) ports.now) }
+fn tied_pins(alloc: Global, reads: &[Name], ports: &[Port]) -> Result<Vec<TiedPin>, AllocError>
+    ensures { IfOk result (λ ties. ties.items ≡ map (tied_pin reads.now) ports.now) }
 {
     let mut ties = Vec::new(alloc);
     for port in ports {
         let name = port.name.copy(alloc)?;
-        let tie = tie_of(first, port);
+        let tie = tie_of(reads, port);
         ties.push(TiedPin { name, tie })?;
     }
     Ok(ties)
@@ -175,73 +147,19 @@ fn output_of(alloc: Global, pins: &[Pin]) -> Result<Name, AllocError>
     unreachable!()
 }
 
-fn part_of_cell(alloc: Global, cell: &Cell) -> Result<Part, AllocError>
+/// A cell as a netlist uses it. Takes memory for the names of its pins.
+pub(crate) fn part_of_cell(alloc: Global, cell: &Cell) -> Result<Part, AllocError>
     requires { IsUsable cell.now }
     ensures { IfOk result (λ p. IsPart cell.now p) }
 {
     let ports = all_ports(alloc, cell)?;
     let pins = port_names(alloc, &ports)?;
-    let ties = tied_pins(alloc, first_pin(cell), &ports)?;
+    let reads = read_pins(alloc, cell)?;
+    let ties = tied_pins(alloc, &reads, &ports)?;
     Ok(Part {
         model: cell.name.copy(alloc)?,
         pins: Names::new(pins),
         ties,
         output: output_of(alloc, cell.pins.as_slice())?,
-    })
-}
-
-/// Whether a netlist may use the cell, and it has the kind.
-#[tactic(auto, using(cell_model::proofs::KindLemmas::kind_told, cell_model::proofs::KindLemmas::kind_said))]
-fn is_cell_of(cell: &Cell, kind: Kind) -> bool
-    requires formed { IsFormed cell.now }
-    requires connectors { PinsAreConnectors cell.now }
-    ensures { IsTrue result ↔ (IsUsable cell.now × HasKind cell.now kind) }
-{
-    usable(cell) && kind_of(cell) == Some(kind)
-}
-
-/// The first usable cell of a kind.
-fn chosen(cells: &[Cell], kind: Kind) -> &Cell
-    requires formed { All IsFormed cells.now }
-    requires connectors { All PinsAreConnectors cells.now }
-    requires there { HasCellOf cells.now kind }
-    ensures { IsChosen cells.now kind result.now }
-{
-    for cell in cells {
-        if is_cell_of(cell, kind) {
-            return cell;
-        }
-    }
-    unreachable!()
-}
-
-fn chosen_part(alloc: Global, cells: &[Cell], kind: Kind) -> Result<Part, AllocError>
-    requires formed { All IsFormed cells.now }
-    requires connectors { All PinsAreConnectors cells.now }
-    requires there { HasCellOf cells.now kind }
-    ensures { IfOk result (λ p. IsPartOf cells.now kind p) }
-{
-    part_of_cell(alloc, chosen(cells, kind))
-}
-
-/// For each kind the first usable cell. Without registers no flip-flop is needed, and an inverter stands for it. Takes memory
-/// for the names of pins.
-pub(crate) fn chosen_parts(
-    alloc: Global,
-    cells: &[Cell],
-    registers: bool,
-) -> Result<Parts, AllocError>
-    requires formed { All IsFormed cells.now }
-    requires connectors { All PinsAreConnectors cells.now }
-    requires there { (k : Kind) → In k (needed registers) → HasCellOf cells.now k }
-    ensures { IfOk result (λ ps. AreParts cells.now registers ps) }
-{
-    let dff = if registers { Kind::Dff } else { Kind::Inv };
-    Ok(Parts {
-        inv: chosen_part(alloc, cells, Kind::Inv)?,
-        nand2: chosen_part(alloc, cells, Kind::Nand2)?,
-        zero: chosen_part(alloc, cells, Kind::Zero)?,
-        one: chosen_part(alloc, cells, Kind::One)?,
-        dff: chosen_part(alloc, cells, dff)?,
     })
 }

@@ -3,13 +3,12 @@ ghost use Rattle.std.specs.Prelude.{◌≡◌, ◌++◌, ◌∷◌, [], ◌+◌,
 ghost use Rattle.std.specs.Fmt.{decimal};
 ghost use Rattle.vlsi_base.specs.Names.{scalar};
 ghost use Rattle.net_core.specs.Netlist.{port};
-ghost use Rattle.subject_table.specs.View.{node_view};
-ghost use Rattle.boog_map.specs.Draft.{output_terminal, register_spots, gate_spot, gate_spots, gate_drivers};
+ghost use Rattle.boog_map.specs.Draft.{output_terminal, node_signals, register_reads, register_spot, register_spots, gate_spot, gate_spots, gate_drivers};
 
-use crate::part::Parts;
+use crate::choice::{Parts, Role};
+use cell_match::Gate;
 use std::alloc::{AllocError, Global};
-use subject_graph::Node;
-use vlsi_base::{Kind, Name, Terminal, Text, push_u64};
+use vlsi_base::{Listed, Name, Terminal, Text, push_u64};
 
 /// What gives a class its bit: a supply, the clock, or a node.
 #[derive(Clone, Copy)]
@@ -20,18 +19,17 @@ pub(crate) enum Signal {
     Node(u32),
 }
 
-/// An instance: its name, the kind of its cell, the node that it shows, and the first and the second of what it reads.
+/// An instance: its name, which cell it has, the node that it shows, and what it reads.
 #[derive(Drop)]
 pub(crate) struct Spot {
     pub(crate) name: Text,
-    pub(crate) kind: Kind,
+    pub(crate) role: Role,
     pub(crate) shown: u32,
-    pub(crate) first: Signal,
-    pub(crate) second: Signal,
+    pub(crate) reads: Listed<Signal>,
 }
 
-/// The instances so far, and for each number so far the terminal that shows it: a node that is not reached has none, and the
-/// port vss stands for it.
+/// The instances so far, and for each number so far the terminal that shows it: a node without a gate has none, and the port vss
+/// stands for it.
 #[derive(Drop)]
 pub(crate) struct Plan {
     pub(crate) spots: Vec<Spot>,
@@ -65,7 +63,7 @@ impl Plan {
     {
         self.drivers.push(Terminal {
             instance: Some(spot.name.copy(alloc)?),
-            pin: parts.of(spot.kind).output.copy(alloc)?,
+            pin: parts.of(spot.role).output.copy(alloc)?,
         })?;
         self.spots.push(spot)?;
         Ok(())
@@ -86,63 +84,81 @@ impl Plan {
     {
         let first = self.drivers.len() as u32;
         for (k, load) in loads.iter().enumerate() {
-            let spot = Spot {
-                name: numbered(alloc, b"q", k as u64)?,
-                kind: Kind::Dff,
-                shown: first + k as u32,
-                first: Signal::Node(*load),
-                second: Signal::Clock,
-            };
+            let spot = register_spot(alloc, first, k, *load)?;
             self.put(alloc, parts, spot)?;
         }
         Ok(())
     }
 
-    /// Puts those nodes behind inputs and registers that are marked, in their order.
-    pub(crate) fn put_nodes(
+    /// Puts the gates of the nodes behind inputs and registers, in the order of the nodes.
+    pub(crate) fn put_gates(
         &mut self,
         alloc: Global,
         parts: &Parts,
-        nodes: &[Node],
-        marks: &[bool],
+        gates: &[Option<Gate>],
     ) -> Result<(), AllocError>
-        requires few { length self.old.drivers.items + length nodes.now < 2 ^ 32 }
-        requires marks { length marks.now ≡ length self.old.drivers.items + length nodes.now }
+        requires { length self.old.drivers.items + length gates.now < 2 ^ 32 }
         ensures spots { OnOk result (self.new.spots.items
-            ≡ self.old.spots.items ++ gate_spots marks.now (length self.old.drivers.items) 0 (map node_view nodes.now)) }
+            ≡ self.old.spots.items ++ gate_spots (length self.old.drivers.items) 0 gates.now) }
         ensures drivers { OnOk result (self.new.drivers.items ≡ self.old.drivers.items
-            ++ gate_drivers parts.now marks.now (length self.old.drivers.items) 0 (map node_view nodes.now)) }
+            ++ gate_drivers parts.now (length self.old.drivers.items) 0 gates.now) }
     {
         let mut count = 0;
-        for node in nodes {
-            let number = self.drivers.len();
-            if marks[number] {
-                let spot = gate_spot(alloc, count, number as u32, node)?;
-                self.put(alloc, parts, spot)?;
-                count += 1;
-            } else {
-                self.drivers.push(scalar_port(alloc, b"vss")?)?;
+        for gate in gates {
+            match gate {
+                Some(gate) => {
+                    let spot = gate_spot(alloc, count, self.drivers.len() as u32, gate)?;
+                    self.put(alloc, parts, spot)?;
+                    count += 1;
+                }
+                None => self.drivers.push(scalar_port(alloc, b"vss")?)?,
             }
         }
         Ok(())
     }
 }
 
-/// The instance of a node, which is number `k` of all gates.
-fn gate_spot(alloc: Global, k: u64, number: u32, node: &Node) -> Result<Spot, AllocError>
-    ensures { IfOk result (λ spot. spot ≡ gate_spot k number (node_view node.now)) }
+fn node_signals(alloc: Global, numbers: &[u32]) -> Result<Listed<Signal>, AllocError>
+    ensures { IfOk result (λ signals. signals ≡ node_signals numbers.now) }
 {
-    let (kind, first, second) = match node {
-        Node::Fixed(false) => (Kind::Zero, Signal::Low, Signal::Low),
-        Node::Fixed(true) => (Kind::One, Signal::Low, Signal::Low),
-        Node::Inv(a) => (Kind::Inv, Signal::Node(*a), Signal::Node(*a)),
-        Node::Nand(a, b) => (Kind::Nand2, Signal::Node(*a), Signal::Node(*b)),
-    };
+    let mut signals = Vec::new(alloc);
+    for number in numbers {
+        signals.push(Signal::Node(*number))?;
+    }
+    Ok(Listed::new(signals))
+}
+
+/// What a register reads.
+fn register_reads(alloc: Global, load: u32) -> Result<Listed<Signal>, AllocError>
+    ensures { IfOk result (λ signals. signals ≡ register_reads load) }
+{
+    let mut signals = Vec::new(alloc);
+    signals.push(Signal::Node(load))?;
+    signals.push(Signal::Clock)?;
+    Ok(Listed::new(signals))
+}
+
+/// The instance of register `k`, where the first register has number `first`.
+fn register_spot(alloc: Global, first: u32, k: usize, load: u32) -> Result<Spot, AllocError>
+    requires { first + k < 2 ^ 32 }
+    ensures { IfOk result (λ spot. spot ≡ register_spot first k load) }
+{
+    Ok(Spot {
+        name: numbered(alloc, b"q", k as u64)?,
+        role: Role::Register,
+        shown: first + k as u32,
+        reads: register_reads(alloc, load)?,
+    })
+}
+
+/// The instance of a gate, which is number `k` of all and stands for this node.
+fn gate_spot(alloc: Global, k: u64, number: u32, gate: &Gate) -> Result<Spot, AllocError>
+    ensures { IfOk result (λ spot. spot ≡ gate_spot k number gate.now) }
+{
     Ok(Spot {
         name: numbered(alloc, b"g", k)?,
-        kind,
+        role: Role::Gate(gate.cell),
         shown: number,
-        first,
-        second,
+        reads: node_signals(alloc, gate.leaves.as_slice())?,
     })
 }

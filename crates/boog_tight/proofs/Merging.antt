@@ -1,16 +1,17 @@
 -- Two gates put into one.
-use Rattle.std.proofs.Common.{◌≡◌, ◌≢◌, ◌⊎◌, inl, inr, ℕ, ◌+◌, ◌<◌, ◌≤◌, Bool, true, false, List, [], ◌∷◌, map, length, set, Option, None, Some, nat_eq, if◌then◌else◌, ap, ap₂, refl, sym, subst, ◌∙◌, arith, length-set}
+use Rattle.std.proofs.Common.{◌≡◌, ◌≢◌, ◌⊎◌, inl, inr, ℕ, ◌+◌, ◌<◌, ◌≤◌, Bool, true, false, List, [], ◌∷◌, ◌++◌, map, length, set, Option, None, Some, nat_eq, if◌then◌else◌, ap, ap₂, refl, sym, subst, ◌∙◌, arith, length-set, length-append}
 use Prim.Native.Nat.{zero, suc}
 use Rattle.std.proofs.lemmas.Bool.{cases_eq, cases_lt, eqb-true}
 use Rattle.cell_match.specs.declared.gate.CellWord.{CellWord}
 use Rattle.cell_match.specs.declared.gate.Gate.{Gate}
 use Rattle.cell_match.specs.Places.{times}
-use Rattle.boog_tight.specs.Cover.{gate_at, used, uses, IsCover, AreTrue}
+use Rattle.cell_match.proofs.Pigeons.{no_longer, times_append}
+use Rattle.boog_tight.specs.Cover.{gate_at, leaves_of, used, uses, IsCover, AreTrue}
 use Rattle.cell_match.specs.Cells.{cell_value, gate_value, IsGate}
 use Rattle.cell_match.specs.Computes.{put, Computes}
 use Rattle.boog_tight.specs.Tight.{IsPair, IsTightBelow}
-use Rattle.boog_tight.specs.Kept.{one_of, live, Keeps}
-use Rattle.boog_tight.proofs.Counting.{used_set, used_twice, gate_there, gate_same, gate_other, leaves_at}
+use Rattle.boog_tight.specs.Kept.{one_of, live, leaf_count, ReadsThrough, pin, through, EachIsUsed, Keeps}
+use Rattle.boog_tight.proofs.Counting.{used_set, used_some, used_twice, gate_there, gate_same, gate_other, leaves_at}
 
 -- the gates with m in place of g, which shows node j, and none in place of h
 abbrev pub merged : List (Option Gate) → ℕ → ℕ → Gate → List (Option Gate)
@@ -32,6 +33,12 @@ live_set : (gates : List (Option Gate)) (j : ℕ) (v : Option Gate) → j < leng
 live_set [] j v h = absurd (omega arith)
 live_set (g ∷ gates) zero v h = omega arith
 live_set (g ∷ gates) (suc j) v h = let e = live_set gates j v (omega arith) in omega arith
+
+leaves_set : (gates : List (Option Gate)) (j : ℕ) (v : Option Gate) → j < length gates
+    → leaf_count (set gates j v) + length (leaves_of (gate_at gates j)) ≡ leaf_count gates + length (leaves_of v)
+leaves_set [] j v h = absurd (omega arith)
+leaves_set (g ∷ gates) zero v h = omega arith
+leaves_set (g ∷ gates) (suc j) v h = let e = leaves_set gates j v (omega arith) in omega arith
 
 not_both : {g : Gate} {o : Option Gate} → o ≡ None → o ≡ Some g → ⊥
 not_both {g} {o} e f = cc
@@ -168,12 +175,95 @@ module _ (cells : List CellWord) (given : ℕ) (gates : List (Option Gate)) (roo
     ]
   ]
 
+  unread_by_g : times j g.leaves.items ≡ 0
+  unread_by_g = elim (cases_lt 0 (times j g.leaves.items)) [
+    | inl some ↦ let e = (cover.gate j g pair.outer).earlier j some in absurd (omega arith)
+    | inr none ↦ omega arith
+  ]
+
+  late_for_h : times j h.leaves.items ≡ 0
+  late_for_h = elim (cases_lt 0 (times j h.leaves.items)) [
+    | inl some ↦ let e = (cover.gate a h pair.inner).earlier j some in let f = before in absurd (omega arith)
+    | inr none ↦ omega arith
+  ]
+
+  -- what was read is read, but for node a
+  still_read : (i : ℕ) → i ≢ a → i ≢ j → 0 < uses gates roots i → 0 < uses (merged gates a j m) roots i
+  still_read i not_a not_j some =
+      let e = used_merged i in
+      elim (cases_lt 0 (times i m.leaves.items)) [
+        | inl by_m ↦ let u = used_some i (merged gates a j m) j m at_j in omega arith
+        | inr none ↦
+            let by_h : times i h.leaves.items ≡ 0 = elim (cases_lt 0 (times i h.leaves.items)) [
+              | inl yes_h ↦ let f = (does.members i).1 (inl yes_h) in absurd (omega arith)
+              | inr no_h ↦ omega arith
+            ] in
+            let by_g : times i g.leaves.items ≡ 0 = elim (cases_lt 0 (times i g.leaves.items)) [
+              | inl yes_g ↦ let f = (does.members i).1 (inr (yes_g, not_a)) in absurd (omega arith)
+              | inr no_g ↦ omega arith
+            ] in
+            omega arith
+      ]
+
+  needed_merged : EachIsUsed gates roots → EachIsUsed (merged gates a j m) roots
+  needed_merged used i one e = elim (cases_eq i j) [
+    | inl is_j ↦
+        let u = used_merged j in
+        let by_g = unread_by_g in
+        let by_h = late_for_h in
+        let was = used j g pair.outer in
+        let now : 0 < uses (merged gates a j m) roots j = omega arith in
+        subst (λ (n : ℕ). 0 < uses (merged gates a j m) roots n) (sym is_j) now
+    | inr not_j ↦ elim (cases_eq i a) [
+      | inl is_a ↦ absurd (not_both at_a (subst (λ (n : ℕ). gate_at (merged gates a j m) n ≡ Some one) is_a e))
+      | inr not_a ↦ still_read i not_a not_j (used i one (sym (at_other i not_a not_j) ∙ e))
+    ]
+  ]
+
+  read_at_j : (x : ℕ) → 0 < times x m.leaves.items → ReadsThrough gates j x
+  read_at_j x some = elim ((does.members x).0 some) [
+    | inl by_h ↦
+        let outer_a : 0 < times a (leaves_of (gate_at gates j)) = subst (λ (xs : List ℕ). 0 < times a xs) (sym (leaves_at gates j g pair.outer)) pair.reads in
+        let inner_x : 0 < times x (leaves_of (gate_at gates a)) = subst (λ (xs : List ℕ). 0 < times x xs) (sym (leaves_at gates a h pair.inner)) by_h in
+        through {b = a} (pin outer_a) (pin inner_x)
+    | inr by_g ↦ pin (subst (λ (xs : List ℕ). 0 < times x xs) (sym (leaves_at gates j g pair.outer)) by_g.0)
+  ]
+
+  read_merged : (i x : ℕ) → 0 < times x (leaves_of (gate_at (merged gates a j m) i)) → ReadsThrough gates i x
+  read_merged i x some = elim (cases_eq i j) [
+    | inl is_j ↦
+        let e : 0 < times x (leaves_of (gate_at (merged gates a j m) j)) = subst (λ (n : ℕ). 0 < times x (leaves_of (gate_at (merged gates a j m) n))) is_j some in
+        subst (λ (n : ℕ). ReadsThrough gates n x) (sym is_j)
+        (read_at_j x (subst (λ (xs : List ℕ). 0 < times x xs) (leaves_at (merged gates a j m) j m at_j) e))
+    | inr not_j ↦ elim (cases_eq i a) [
+      | inl is_a ↦
+          let e : 0 < times x (leaves_of (gate_at (merged gates a j m) a)) = subst (λ (n : ℕ). 0 < times x (leaves_of (gate_at (merged gates a j m) n))) is_a some in
+          let none = ap (λ (o : Option Gate). times x (leaves_of o)) at_a in
+          absurd (omega arith)
+      | inr not_a ↦ pin (subst (λ (o : Option Gate). 0 < times x (leaves_of o)) (at_other i not_a not_j) some)
+    ]
+  ]
+
+  pins_merged : leaf_count (merged gates a j m) ≤ leaf_count gates
+  pins_merged =
+      let one = leaves_set (set gates a None) j (Some m) there_next in
+      let two = leaves_set gates a None there_a in
+      let same_g = ap (λ (o : Option Gate). length (leaves_of o)) outer_next in
+      let same_h = ap (λ (o : Option Gate). length (leaves_of o)) pair.inner in
+      let both = length-append h.leaves.items g.leaves.items in
+      let most = no_longer m.leaves.items (h.leaves.items ++ g.leaves.items) does.once (λ x some.
+      let e = times_append x h.leaves.items g.leaves.items in let f = few x in omega arith) in
+      omega arith
+
   -- what two gates put into one keep
   pub keeps_merged : Keeps cells given roots gates (merged gates a j m)
   keeps_merged = record {
     cover = record { gate = gate_merged; closed = closed_merged };
     long = long;
     fewer = fewer_merged;
+    read = read_merged;
+    pins = pins_merged;
+    needed = needed_merged;
     same = true_merged;
   }
 

@@ -5,16 +5,30 @@ use Rattle.cell_match.specs.declared.gate.CellWord.{CellWord}
 use Rattle.cell_match.specs.declared.gate.Gate.{Gate}
 use Rattle.boog_tight.specs.declared.pass.Fused.{Fused}
 use Rattle.cell_match.specs.Places.{times}
-use Rattle.boog_tight.specs.Cover.{gate_at, IsCover}
+use Rattle.boog_tight.specs.Cover.{gate_at, leaves_of, IsCover}
 use Rattle.boog_tight.specs.Tight.{IsPair, IsTight, IsTightBelow}
-use Rattle.boog_tight.specs.Kept.{live, Keeps}
+use Rattle.boog_tight.specs.Kept.{live, ReadsThrough, pin, through, Keeps}
 use Rattle.boog_tight.specs.Uses.{AreUses, IsFused, NoneFused, exchanged, read_by}
 use Rattle.boog_tight.proofs.Counting.{used_twice, gate_there, leaves_at}
 use Rattle.boog_tight.proofs.Merging.{used_merged, few, long, keeps_merged, live_merged, tight_merged}
 
 pub keeps_refl : (cells : List CellWord) (given : ℕ) (roots : List ℕ) (gates : List (Option Gate)) → IsCover cells given gates roots
     → Keeps cells given roots gates gates
-keeps_refl cells given roots gates cover = record { cover = cover; long = refl; fewer = λ x h. h; same = λ f h. h }
+keeps_refl cells given roots gates cover = record {
+  cover = cover;
+  long = refl;
+  fewer = λ x h. h;
+  read = λ a x h. pin h;
+  pins = omega arith;
+  needed = λ h. h;
+  same = λ f h. h;
+}
+
+-- what is read by way of the second gates, where each of their pins is read by way of the first
+lifted : (one two : List (Option Gate)) → ((a x : ℕ) → 0 < times x (leaves_of (gate_at two a)) → ReadsThrough one a x) → (a x : ℕ)
+    → ReadsThrough two a x → ReadsThrough one a x
+lifted one two each a x (pin h) = each a x h
+lifted one two each a x (through {b = b} s t) = through {b = b} (lifted one two each a b s) (lifted one two each b x t)
 
 pub keeps_trans : (cells : List CellWord) (given : ℕ) (roots : List ℕ) (one two three : List (Option Gate))
     → Keeps cells given roots one two → Keeps cells given roots two three → Keeps cells given roots one three
@@ -22,6 +36,9 @@ keeps_trans cells given roots one two three p q = record {
   cover = q.cover;
   long = q.long ∙ p.long;
   fewer = λ x h. q.fewer x (p.fewer x h);
+  read = λ a x h. lifted one two p.read a x (q.read a x h);
+  pins = let e = p.pins in let f = q.pins in omega arith;
+  needed = λ h. q.needed (p.needed h);
   same = λ f h. q.same f (p.same f h);
 }
 

@@ -1,14 +1,15 @@
 -- A table that is filled with a cell's orders.
-use Rattle.std.proofs.Common.{◌≡◌, ◌≢◌, ◌⊎◌, inl, inr, ℕ, ◌+◌, ◌<◌, ◌≤◌, ◌^◌, List, [], ◌∷◌, ◌++◌, take, get_or, length, slice_get, Option, Some, ap, refl, sym, subst, ◌∙◌, arith, length-append}
+use Rattle.std.proofs.Common.{◌≡◌, ◌≢◌, ◌⊎◌, inl, inr, ℕ, ◌+◌, ◌<◌, ◌≤◌, ◌^◌, List, [], ◌∷◌, ◌++◌, take, get_or, length, slice_get, Option, None, Some, ap, refl, sym, subst, ◌∙◌, arith, length-append}
 use Prim.Native.Nat.{zero, suc}
 use Rattle.std.proofs.lemmas.Bool.{cases_lt}
 use Rattle.cell_match.specs.declared.gate.CellWord.{CellWord}
 use Rattle.cell_match.specs.declared.table.Match.{Match}
 use Rattle.cell_match.specs.Places.{times, IsOrder}
 use Rattle.cell_match.specs.Cells.{inputs_of, IsOf, IsMatch}
-use Rattle.cell_match.specs.Matches.{Known, AreMatches, IsBegun, KnowsEach}
+use Rattle.cell_match.specs.Matches.{Known, IsMoreOf, AreMatches, IsBegun, KnowsEach}
 use Rattle.cell_match.proofs.Numbers.{one_tells, times_here, times_some}
 use Rattle.cell_match.proofs.Pigeons.{times_append}
+use Rattle.cell_match.proofs.Entering.{more_both, known_more}
 
 -- the same, for orders whose next place is below this one
 abbrev pub KnowsBelow : List CellWord → ℕ → List ℕ → ℕ → (ℕ → Option Match) → Type 0
@@ -92,17 +93,17 @@ below_all cells k begun place at all short below word order low is same of =
 -- what the loop keeps
 pub record Fills (cells : List CellWord) (k : ℕ) (begun : List ℕ) (place : ℕ) (old now : ℕ → Option Match) : Type 0 where
   pub found : AreMatches cells (inputs_of cells k) now
-  pub grows : (w : ℕ) → Known old w → Known now w
+  pub grows : IsMoreOf k old now
   pub every : KnowsBelow cells k begun place now
 
 pub fills_more : (cells : List CellWord) (k : ℕ) (begun : List ℕ) (place : ℕ) (old now next : ℕ → Option Match) → length begun < inputs_of cells k
     → Fills cells k begun place old now
-    → AreMatches cells (inputs_of cells k) next → ((w : ℕ) → Known now w → Known next w) → KnowsEach cells k (begun ++ place ∷ []) next
+    → AreMatches cells (inputs_of cells k) next → IsMoreOf k now next → KnowsEach cells k (begun ++ place ∷ []) next
     → Fills cells k begun (place + 1) old next
 fills_more cells k begun place old now next short is found grows each = record {
   found = found;
-  grows = λ w h. grows w (is.grows w h);
-  every = below_filled cells k begun place short now next grows is.every each;
+  grows = more_both k old now next is.grows grows;
+  every = below_filled cells k begun place short now next (known_more k now next grows) is.every each;
 }
 
 pub fills_skipped : (cells : List CellWord) (k : ℕ) (begun : List ℕ) (place : ℕ) (old now : ℕ → Option Match) → length begun < inputs_of cells k
@@ -117,16 +118,24 @@ fills_skipped cells k begun place old now short is there = record {
 pub record FilledTo (cells : List CellWord) (n k : ℕ) (at : ℕ → Option Match) : Type 0 where
   pub found : AreMatches cells n at
   pub every : (word j : ℕ) (order : List ℕ) → j < k → word < 2 ^ 64 → IsMatch cells n word j order → Known at word
+  pub first : (word j : ℕ) (order : List ℕ) (x : Match) → word < 2 ^ 64 → at word ≡ Some x → IsMatch cells n word j order → x.cell ≤ j
 
 pub filled_to_more : (cells : List CellWord) (n k : ℕ) (old now : ℕ → Option Match) → inputs_of cells k ≡ n → FilledTo cells n k old
-    → AreMatches cells n now → ((w : ℕ) → Known old w → Known now w) → KnowsEach cells k [] now → FilledTo cells n (k + 1) now
+    → AreMatches cells n now → IsMoreOf k old now → KnowsEach cells k [] now → FilledTo cells n (k + 1) now
 filled_to_more cells n k old now is before found grows each = record {
   found = found;
   every = λ word j order low fits one. elim (cases_lt j k) [
-    | inl less ↦ grows word (before.every word j order less fits one)
+    | inl less ↦ known_more k old now grows word (before.every word j order less fits one)
     | inr not_less ↦
         let same : j ≡ k = omega arith in
         each word order fits (subst (λ (m : ℕ). IsOrder m order) (sym is) one.ordered) refl (subst (λ (i : ℕ). IsOf cells i order word) same one.same)
+  ];
+  first = λ word j order x fits e one. elim (grows.added word x e) [
+    | inl was ↦ before.first word j order x fits was one
+    | inr new ↦ elim (cases_lt j k) [
+      | inl less ↦ let known = before.every word j order less fits one in let f : None ≡ Some known.0 = sym new.0 ∙ known.1 in cc
+      | inr not_less ↦ let is_k = new.1 in omega arith
+    ]
   ];
 }
 
@@ -137,6 +146,7 @@ filled_to_skipped cells n k at other before = record {
     | inl less ↦ before.every word j order less fits one
     | inr not_less ↦ let same : k ≡ j = omega arith in absurd (other (ap (λ (i : ℕ). inputs_of cells i) same ∙ one.inputs))
   ];
+  first = before.first;
 }
 
 -- an element of a list with one more

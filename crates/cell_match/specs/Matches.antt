@@ -1,5 +1,5 @@
 -- Tables from words to cells.
-use Rattle.std.specs.Prelude.{◌≡◌, ℕ, ◌<◌, ◌≤◌, ◌^◌, List, take, length, Option, Some, nat_eq, slice_get}
+use Rattle.std.specs.Prelude.{◌≡◌, ◌⊎◌, ℕ, ◌<◌, ◌≤◌, ◌^◌, List, take, length, Option, Some, None, nat_eq, slice_get}
 use Rattle.std.specs.HashMap.{HashMap, get}
 use Rattle.cell_match.specs.declared.gate.CellWord.{CellWord}
 use Rattle.cell_match.specs.declared.table.Match.{Match}
@@ -14,10 +14,16 @@ Known at word = (x : Match) × (at word ≡ Some x)
 abbrev pub AreMatches : List CellWord → ℕ → (ℕ → Option Match) → Type 0
 AreMatches cells n at = (word : ℕ) (x : Match) → at word ≡ Some x → IsMatch cells n word x.cell x.order.items
 
--- and something is told of each word that a cell of n inputs computes
+-- and something is told of each word that a cell of n inputs computes: the first of these cells
 pub record IsTableOf (cells : List CellWord) (n : ℕ) (at : ℕ → Option Match) : Type 0 where
   pub found : AreMatches cells n at
   pub every : (word k : ℕ) (order : List ℕ) → word < 2 ^ 64 → IsMatch cells n word k order → Known at word
+  pub first : (word k : ℕ) (order : List ℕ) (x : Match) → word < 2 ^ 64 → at word ≡ Some x → IsMatch cells n word k order → x.cell ≤ k
+
+-- what was told of words is told, and of further ones cell k
+pub record IsMoreOf (k : ℕ) (old new : ℕ → Option Match) : Type 0 where
+  pub kept : (word : ℕ) (x : Match) → old word ≡ Some x → new word ≡ Some x
+  pub added : (word : ℕ) (x : Match) → new word ≡ Some x → (old word ≡ Some x) ⊎ ((old word ≡ None) × (x.cell ≡ k))
 
 -- what the maps tell of words over n variables
 abbrev pub IsTable : {S : Type 0} → List CellWord → List (HashMap ℕ Match S) → Type 0

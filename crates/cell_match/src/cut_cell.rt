@@ -13,12 +13,14 @@ use crate::pair::arranged;
 use crate::table::Table;
 use truth_tab::Truth;
 
-/// A gate that computes the cut; None where no cell does.
+/// A gate of the first cell that computes the cut; None where no cell does.
 pub fn matched<const K: usize>(cells: &[CellWord], table: &Table, cut: &Cut<K>) -> Option<Gate>
     requires few { K ≤ 6 }
     requires table { IsTable cells.now table.now.maps.items }
     requires once { (x : ℕ) → times x cut.now.leaves.items ≤ 1 }
     ensures some { IfSome result (λ g. ComputesCut cells.now g.cell g.leaves.items cut.now) }
+    ensures few { IfSome result (λ g. length g.leaves.items ≤ K) }
+    ensures first { IfSome result (λ g. (k : ℕ) (order : List ℕ) → ComputesCut cells.now k order cut.now → g.cell ≤ k) }
     ensures none { IfNone result ((k : ℕ) (order : List ℕ) → ComputesCut cells.now k order cut.now → ⊥) }
 {
     let leaves = cut.leaves.as_slice();

@@ -5,7 +5,7 @@ ghost use Rattle.std.specs.Option.{option_copied};
 ghost use Rattle.truth_tab.specs.Table.{bit, value_of};
 ghost use Rattle.cell_match.specs.Places.{times, IsOrder};
 ghost use Rattle.cell_match.specs.Cells.{inputs_of, IsOf, IsMatch};
-ghost use Rattle.cell_match.specs.Matches.{Known, IsBegun, KnowsEach, AreMatches, IsTableOf, IsTable, IsFound};
+ghost use Rattle.cell_match.specs.Matches.{Known, IsMoreOf, IsBegun, KnowsEach, AreMatches, IsTableOf, IsTable, IsFound};
 
 use crate::gate::CellWord;
 use arrayvec::ArrayVec;
@@ -16,7 +16,7 @@ use truth_tab::Truth;
 /// A cell, and which variable stands at each of its inputs.
 #[derive(Drop)]
 pub struct Match {
-    pub cell: u32,
+    pub cell: usize,
     pub order: ArrayVec<u8, 6>,
 }
 
@@ -61,11 +61,10 @@ fn enter(
 ) -> Result<(), AllocError>
     requires few { inputs_of cells.now k ≤ 6 }
     requires there { k < length cells.now }
-    requires cells { length cells.now < 2 ^ 32 }
     requires order { IsOrder (inputs_of cells.now k) order.now }
     requires found { AreMatches cells.now (inputs_of cells.now k) (λ w. get nat_eq map.old w) }
     ensures found { OnOk result (AreMatches cells.now (inputs_of cells.now k) (λ w. get nat_eq map.new w)) }
-    ensures grows { OnOk result ((w : ℕ) → Known (λ w. get nat_eq map.old w) w → Known (λ w. get nat_eq map.new w) w) }
+    ensures grows { OnOk result (IsMoreOf k (λ w. get nat_eq map.old w) (λ w. get nat_eq map.new w)) }
     ensures every { OnOk result ((w : ℕ) → w < 2 ^ 64 → IsOf cells.now k order.now w → Known (λ w. get nat_eq map.new w) w) }
 {
     let word = ordered(cells[k].word, order);
@@ -75,7 +74,7 @@ fn enter(
     map.insert(
         word,
         Match {
-            cell: k as u32,
+            cell: k,
             order: copied(order),
         },
     )?;
@@ -91,11 +90,10 @@ fn fill(
 ) -> Result<(), AllocError>
     requires few { inputs_of cells.now k ≤ 6 }
     requires there { k < length cells.now }
-    requires cells { length cells.now < 2 ^ 32 }
     requires begun { IsBegun (inputs_of cells.now k) order.now }
     requires found { AreMatches cells.now (inputs_of cells.now k) (λ w. get nat_eq map.old w) }
     ensures found { OnOk result (AreMatches cells.now (inputs_of cells.now k) (λ w. get nat_eq map.new w)) }
-    ensures grows { OnOk result ((w : ℕ) → Known (λ w. get nat_eq map.old w) w → Known (λ w. get nat_eq map.new w) w) }
+    ensures grows { OnOk result (IsMoreOf k (λ w. get nat_eq map.old w) (λ w. get nat_eq map.new w)) }
     ensures every { OnOk result (KnowsEach cells.now k order.now (λ w. get nat_eq map.new w)) }
 {
     let inputs = cells[k].inputs;
@@ -127,8 +125,7 @@ fn matches(
     cells: &[CellWord],
     inputs: u8,
 ) -> Result<IndexMap<u64, Match>, AllocError>
-    requires few { (k : ℕ) → inputs_of cells.now k ≤ 6 }
-    requires cells { length cells.now < 2 ^ 32 }
+    requires { (k : ℕ) → inputs_of cells.now k ≤ 6 }
     ensures { IfOk result (λ m. IsTableOf cells.now inputs (λ w. get nat_eq m w)) }
 {
     let mut map = IndexMap::new(alloc);
@@ -150,8 +147,7 @@ impl Table {
     /// The table of a list of cells; among cells that compute one word the first is taken. Takes memory for each order of each
     /// cell's inputs.
     pub fn new(alloc: Global, cells: &[CellWord]) -> Result<Table, AllocError>
-        requires few { (k : ℕ) → inputs_of cells.now k ≤ 6 }
-        requires cells { length cells.now < 2 ^ 32 }
+        requires { (k : ℕ) → inputs_of cells.now k ≤ 6 }
         ensures { IfOk result (λ t. IsTable cells.now t.maps.items) }
     {
         let mut maps = Vec::new(alloc);

@@ -54,15 +54,10 @@ pub(crate) fn composed_word(
     requires other { times a inner.now.leaves.items ≡ 0 }
     ensures { (v : List Bool) → length v ≡ 6 → value_of result v ≡ composed cells.now inner.now outer.now a (λ x. bit v (place x nodes.now)) }
 {
-    let word = cells[outer.cell as usize].word;
+    let word = cells[outer.cell].word;
     let leaves = outer.leaves.as_slice();
     let at = place(leaves, a);
-    let h = on_nodes(
-        cells[inner.cell as usize].word,
-        nodes,
-        inner.leaves.as_slice(),
-        a,
-    );
+    let h = on_nodes(cells[inner.cell].word, nodes, inner.leaves.as_slice(), a);
     let one = on_nodes(with(word, at, true), nodes, leaves, a);
     let zero = on_nodes(with(word, at, false), nodes, leaves, a);
     choice(h, one, zero).word

@@ -20,7 +20,7 @@ loop-i-preserved g c =
     let at = is_number cuts i cut c.loop-i-test.true c.index-cuts-i.is in
     elim c.match-matched.branch [
       | in-Some+then-is_none w ↦
-          subst (λ (o : Option Gate). Choosing cells cuts (i + 1) o) (sym w.found-is) (chosen_new cells cuts i cut c.loop-i.auto.i at w.in-Some.gate w.in-Some.ensures.some)
+          subst (λ (o : Option Gate). Choosing cells cuts (i + 1) o) (sym w.found-is) (chosen_new cells cuts i cut c.loop-i.auto.i at w.in-Some.gate w.in-Some.ensures.some w.in-Some.ensures.few)
       | in-Some+else-is_none+else-is_less w ↦
           subst (λ (o : Option Gate). Choosing cells cuts (i + 1) o) (sym w.found-is)
           (chosen_kept cells cuts i cut c.loop-i.auto.i at c.loop-i.found w.if-is_none.ensures c.loop-i.invariant)

@@ -47,6 +47,7 @@ loop-number-preserved g c =
           chosen_more cells held nodes lists c.loop-number.gates.items c.push-in-loop-number.new.self.items n c.if-number-held.gate c.loop-number.invariant more
           (λ low. w.gate-is)
           (λ gate e. let f : None ≡ Some gate = sym w.gate-is ∙ e in cc)
+          (λ gate e. let f : None ≡ Some gate = sym w.gate-is ∙ e in cc)
           (λ list above at e. absurd (omega (arith, below, above)))
       | else-number-held w ↦
           let above = w.if-number-held.false in
@@ -57,6 +58,7 @@ loop-number-preserved g c =
           (λ low. absurd (omega (arith, above, low)))
           (λ gate e. stands_of_cut cells held nodes lists n w.index-lists-number.result.items gate c.requires.cuts at
           (subst (λ xs. IsOfCut cells xs gate) is (if_some (λ x. IsOfCut cells w.as_slice.result.now x) w.best-gate.result gate w.best-gate.ensures.some (sym w.gate-is ∙ e))))
+          (λ gate e. (if_some (λ x. IsOfCut cells w.as_slice.result.now x) w.best-gate.result gate w.best-gate.ensures.some (sym w.gate-is ∙ e)).few)
           (λ list above_n at_list e.
           let same = number_once lists n w.index-lists-number.result.items list at at_list in
           subst (λ xs. NoneOfCuts cells xs) (is ∙ same) (if_none (NoneOfCuts cells w.as_slice.result.now) w.best-gate.result w.best-gate.ensures.none (sym w.gate-is ∙ e)))

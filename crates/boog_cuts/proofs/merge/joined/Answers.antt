@@ -1,8 +1,9 @@
+use Rattle.std.proofs.lemmas.Bool.{eqb-true}
 use Rattle.std.proofs.Common.{◌≡◌, ◌≢◌, ℕ, ◌+◌, List, ◌++◌, ◌∷◌, [], take, get_or, length, ap, sym, subst, ◌∙◌, arith, length-append}
 use Rattle.cell_match.specs.Places.{place}
 use Rattle.cell_match.proofs.Reading.{new_there, old_there}
 use Rattle.boog_cuts.specs.Cuts.{IsUnion}
-use Rattle.boog_cuts.proofs.Joining.{union_skip, union_add}
+use Rattle.boog_cuts.proofs.Joining.{union_skip, union_add, union_full}
 use Rattle.boog_cuts.proofs.merge.joined.Goals as goal
 use Rattle.boog_cuts.proofs.merge.joined.Goals.{then-place-len+else-is_full, else-place-len}
 
@@ -35,3 +36,13 @@ loop-leaf-preserved g c =
             many = omega (arith, long, many);
           }
     ]
+
+pub returns-then-is_full-clause-wide : goal.returns-then-is_full-clause-wide
+returns-then-is_full-clause-wide g c = λ all whole.
+    let y = get_or c.args.second.now c.loop-leaf.leaf-index 0 in
+    let nodes = c.loop-leaf.nodes.items in
+    let is_place = c.place.ensures ∙ ap (λ (xs : List ℕ). place y xs) c.as_slice.ensures.value in
+    let here : place y nodes ≡ length nodes = sym is_place ∙ c.if-place-len.true ∙ c.len.ensures.value in
+    let full = eqb-true (length nodes) g.row.K (sym c.if-is_full.ensures.value) in
+    let more = union_full c.args.first.now c.args.second.now c.loop-leaf.leaf-index nodes c.loop-leaf-test.true c.loop-leaf.invariant.union (new_there y nodes here) all whole in
+    omega (arith, full, more)

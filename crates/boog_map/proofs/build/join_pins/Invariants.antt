@@ -5,4 +5,4 @@ use Rattle.boog_map.proofs.Pins.{pin_signals}
 use Rattle.boog_map.proofs.build.join_pins.Given as goal
 
 abbrev pub invariant-loop-pin : goal.invariant-loop-pin
-invariant-loop-pin l = l.builder ≡ with_joins l.fn.builder (map (join_of l.drivers) (pin_signals l.spot (take l.pin-index (part_of l.parts l.spot.kind).ties.items)))
+invariant-loop-pin l = l.builder ≡ with_joins l.fn.builder (map (join_of l.drivers) (pin_signals l.spot (take l.pin-index (part_of l.parts l.spot.role).ties.items)))

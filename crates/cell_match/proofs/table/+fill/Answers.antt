@@ -30,7 +30,7 @@ fill-requires t c =
     let longer = length-append begun (c.loop-place.place ∷ []) in
     let most = more.many in (
       omega (arith, many, longer, most, c.decreases),
-      (c.requires.few, (c.requires.there, (c.requires.cells, (subst (λ (xs : List ℕ). IsBegun n xs) (sym is) more, c.loop-place.invariant.found)))),
+      (c.requires.few, (c.requires.there, (subst (λ (xs : List ℕ). IsBegun n xs) (sym is) more, c.loop-place.invariant.found))),
     )
 
 pub loop-place-preserved : goal.loop-place-preserved

@@ -27,4 +27,5 @@ pub returns : goal.returns
 returns c = record {
   found = c.loop-k.invariant.found;
   every = λ word k order fits one. c.loop-k.invariant.every word k order (let t = one.there in let over = c.loop-k-test.false in omega (arith, t, over)) fits one;
+  first = c.loop-k.invariant.first;
 }
