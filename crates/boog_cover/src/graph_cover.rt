@@ -13,7 +13,7 @@ ghost use Rattle.boog_cover.specs.Pruned.{IsFull, IsPruned};
 ghost use Rattle.boog_cover.specs.Covered.{HasCells, IsCoveredWith, IsCovered};
 
 use crate::needed::prune;
-use crate::rounds::chosen_twice;
+use crate::rounds::chosen;
 use boog_cuts::{CutTable, cuts};
 use boog_tight::{count_on, tighten};
 use cell_match::{CellWord, Gate, Table};
@@ -121,7 +121,7 @@ fn covered<const K: usize>(
     ensures { IfOk result (λ gates. IsCoveredWith K cells.now held graph.now.nodes roots.now gates.items) }
 {
     let cuts: CutTable<K> = cuts(alloc, held, graph)?;
-    let gates = chosen_twice(alloc, cells, areas, table, &cuts, held, graph, roots)?;
+    let gates = chosen(alloc, cells, areas, table, &cuts, held, graph, roots)?;
     let gates = needed(alloc, gates, held as usize, roots)?;
     tightened(alloc, cells, table, gates, held as usize, roots)
 }

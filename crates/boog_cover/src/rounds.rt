@@ -1,14 +1,19 @@
-// Two rounds of choices.
-ghost use Rattle.std.specs.Prelude.{◌≤◌, ◌+◌, ◌<◌, ◌^◌, map, length, IfOk};
+// Rounds of choices.
+ghost use Rattle.std.specs.Prelude.{◌≤◌, map, IfOk};
 ghost use Rattle.cell_match.specs.Matches.{IsTable};
 ghost use Rattle.boog_cuts.specs.Cuts.{IsCutTable};
 ghost use Rattle.boog_cover.specs.Choices.{AreChosen};
 
 use crate::choice::choices;
-use boog_cuts::CutTable;
+use boog_cuts::{CutTable, readers};
 use cell_match::{CellWord, Gate, Table};
 use std::alloc::{AllocError, Global};
-use subject_graph::{Graph, Node};
+use subject_graph::Graph;
+
+/// How often the cells are chosen, and how often before the readers of each node are forgotten once.
+const ROUNDS: usize = 4;
+
+const SHARED: usize = 2;
 
 fn add_reader(readers: &mut [u32], number: u32) {
     if let Some(count) = readers.get_mut(number as usize) {
@@ -29,25 +34,6 @@ fn is_read(readers: &[u32], number: usize) -> bool {
         Some(count) => *count > 0,
         None => false,
     }
-}
-
-/// How many nodes of the graph read each number. Takes memory for them.
-fn graph_readers(alloc: Global, held: usize, graph: &Graph) -> Result<Vec<u32>, AllocError>
-    requires { held + length graph.now.nodes < 2 ^ 32 }
-{
-    let nodes = graph.nodes();
-    let mut readers = vec![in alloc; 0u32; held + nodes.len()]?;
-    for node in nodes {
-        match node {
-            Node::Fixed(_) => {}
-            Node::Inv(a) => add_reader(&mut readers, *a),
-            Node::Nand(a, b) => {
-                add_reader(&mut readers, *a);
-                add_reader(&mut readers, *b);
-            }
-        }
-    }
-    Ok(readers)
 }
 
 /// How many roots and gates that are needed read each number. Takes memory for them.
@@ -85,9 +71,9 @@ fn area_of(gates: &[Option<Gate>], areas: &[u32], readers: &[u32]) -> u64 {
     area
 }
 
-/// The gates of two rounds, of which the first shares a node's cost among those that read it in the graph, and the second among
-/// those that read it in the first's cover; those of less area. Takes memory for both.
-pub(crate) fn chosen_twice<const K: usize>(
+/// The gates of some rounds, of which the first shares a node's cost among those that read it in the graph, and each further one among
+/// those that read it in the cover before; one in between shares none. Of all these covers the one of least area. Takes memory for them.
+pub(crate) fn chosen<const K: usize>(
     alloc: Global,
     cells: &[CellWord],
     areas: &[u32],
@@ -100,17 +86,23 @@ pub(crate) fn chosen_twice<const K: usize>(
     requires few { K ≤ 6 }
     requires table { IsTable cells.now table.now.maps.items }
     requires cuts { IsCutTable held graph.now.nodes (map (λ v. v.items) cuts.now.cuts.items) }
-    requires numbers { held + length graph.now.nodes < 2 ^ 32 }
     ensures { IfOk result (λ gates. AreChosen cells.now held graph.now.nodes (map (λ v. v.items) cuts.now.cuts.items) gates.items) }
 {
-    let in_graph = graph_readers(alloc, held as usize, graph)?;
-    let first = choices(alloc, cells, areas, table, cuts, held, graph, &in_graph)?;
-    let in_first = cover_readers(alloc, &first, roots)?;
-    let second = choices(alloc, cells, areas, table, cuts, held, graph, &in_first)?;
-    let in_second = cover_readers(alloc, &second, roots)?;
-    if area_of(&second, areas, &in_second) < area_of(&first, areas, &in_first) {
-        Ok(second)
-    } else {
-        Ok(first)
+    let in_graph = readers(alloc, held, graph)?;
+    let mut gates = choices(alloc, cells, areas, table, cuts, held, graph, &in_graph)?;
+    let mut counts = cover_readers(alloc, &gates, roots)?;
+    let mut least = area_of(&gates, areas, &counts);
+    for round in 1..ROUNDS {
+        if round == SHARED {
+            counts.clear();
+        }
+        let next = choices(alloc, cells, areas, table, cuts, held, graph, &counts)?;
+        counts = cover_readers(alloc, &next, roots)?;
+        let area = area_of(&next, areas, &counts);
+        if area < least {
+            gates = next;
+            least = area;
+        }
     }
+    Ok(gates)
 }

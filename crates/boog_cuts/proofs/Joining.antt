@@ -1,9 +1,9 @@
 -- The nodes of two lists, one by one.
-use Rattle.std.proofs.Common.{◌≡◌, inl, inr, ℕ, ◌+◌, ◌<◌, ◌≤◌, Bool, List, [], ◌∷◌, ◌++◌, map, length, take, get_or, ap, refl, sym, subst, ◌∙◌, arith, All, length-append}
+use Rattle.std.proofs.Common.{◌≡◌, inl, inr, ℕ, ◌+◌, ◌<◌, ◌≤◌, Bool, List, [], ◌∷◌, ◌++◌, map, length, take, get_or, ap, refl, sym, subst, ◌∙◌, arith, length-append}
 use Prim.Native.Nat.{zero, suc}
 use Rattle.truth_tab.specs.Table.{bit}
 use Rattle.cell_match.specs.Places.{times, place}
-use Rattle.cell_match.proofs.Numbers.{one, one_tells, times_more, times_take, times_some}
+use Rattle.cell_match.proofs.Numbers.{one, one_tells, times_more, times_take}
 use Rattle.cell_match.proofs.Pigeons.{no_longer, times_append, place_there}
 use Rattle.cell_match.proofs.Composing.{map_on, map_twice}
 use Rattle.boog_cuts.specs.Cuts.{IsUnion}

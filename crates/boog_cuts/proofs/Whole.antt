@@ -5,7 +5,6 @@ use Rattle.net_theory.specs.Sources.{IsNumber}
 use Rattle.net_theory.proofs.Basics.{number_below}
 use Rattle.graph_theory.specs.Graph.{Node}
 use Rattle.cell_match.specs.declared.cut.Cut.{Cut}
-use Rattle.cell_match.specs.Places.{times}
 use Rattle.boog_cuts.specs.Reads.{Reaches, itself, step}
 use Rattle.boog_cuts.specs.Cuts.{AllGive, AllLeaves, AreCuts, IsLeafBelow, AreNodeCuts, HasDirect, IsCutTable}
 use Rattle.boog_cuts.proofs.Growing.{number_front}

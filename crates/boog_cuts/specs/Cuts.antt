@@ -1,5 +1,5 @@
 -- What cuts say.
-use Rattle.std.specs.Prelude.{◌≡◌, ◌⊎◌, ◌↔◌, ℕ, ◌+◌, ◌<◌, ◌≤◌, Bool, not, ◌&&◌, List, [], ◌∷◌, map, length, IsTrue}
+use Rattle.std.specs.Prelude.{◌≡◌, ◌⊎◌, ◌↔◌, ℕ, ◌+◌, ◌<◌, ◌≤◌, Bool, not, ◌&&◌, List, [], ◌∷◌, length, IsTrue}
 use Prim.Native.Nat.{zero, suc}
 use Rattle.net_theory.specs.Sources.{IsNumber}
 use Rattle.graph_theory.specs.Graph.{Node, fixed, inv, nand}

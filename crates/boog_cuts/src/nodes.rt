@@ -7,12 +7,13 @@ ghost use Rattle.cell_match.specs.Computes.{cut_value};
 ghost use Rattle.boog_cuts.specs.Cuts.{IsUnion, AllGive, AreCuts};
 ghost use Rattle.boog_cuts.specs.Lists.{IsMore, AreMade, IsNandMade, IsInvMade, FromOne, FromTwo, BeginsOne, BeginsTwo};
 
+use crate::flow::Pair;
 use crate::merge::{inverse, merged, single};
 use cell_match::{Cut, place};
 use std::alloc::{AllocError, Global};
 
 /// How many cuts of each node are kept beside the node itself.
-pub const KEPT: usize = 8;
+pub const KEPT: usize = 12;
 
 /// Whether a cut has these leaves, in whatever order.
 fn has_leaves<const K: usize>(cuts: &[Cut<K>], leaves: &[u32]) -> bool {
@@ -77,12 +78,13 @@ pub(crate) fn inv_cuts<const K: usize>(
     Ok(cuts)
 }
 
-/// The cuts of a gate from those of the nodes that it reads. Takes memory for them.
+/// The cuts of a gate from those of the nodes that it reads: the direct one, and those of these pairs. Takes memory for them.
 pub(crate) fn nand_cuts<const K: usize>(
     alloc: Global,
     number: u32,
     first: &[Cut<K>],
     second: &[Cut<K>],
+    pairs: &[Pair],
 ) -> Result<Vec<Cut<K>>, AllocError>
     requires some { 2 ≤ K }
     requires few { K ≤ 6 }
@@ -100,11 +102,9 @@ pub(crate) fn nand_cuts<const K: usize>(
     } else {
         unreachable!();
     }
-    for sum in 1..first.len() + second.len() {
-        for i in 0..first.len() {
-            if i <= sum && sum - i < second.len() {
-                add(&mut cuts, &first[i], &second[sum - i])?;
-            }
+    for pair in pairs {
+        if pair.first < first.len() && pair.second < second.len() {
+            add(&mut cuts, &first[pair.first], &second[pair.second])?;
         }
     }
     Ok(cuts)

@@ -6,6 +6,7 @@ ghost use Rattle.subject_table.specs.View.{node_view};
 ghost use Rattle.cell_match.specs.declared.cut.Cut.{Cut};
 ghost use Rattle.boog_cuts.specs.Cuts.{AllGive, AllLeaves, HasDirect, AreCuts, AreNodeCuts, IsCutTable};
 
+use crate::flow::{Flows, best_pairs};
 use crate::merge::single;
 use crate::nodes::{inv_cuts, nand_cuts};
 use arrayvec::ArrayVec;
@@ -59,6 +60,7 @@ fn node_cuts<const K: usize>(
     number: u32,
     node: &Node,
     cuts: &[Vec<Cut<K>>],
+    flows: &Flows,
 ) -> Result<Vec<Cut<K>>, AllocError>
     requires some { 2 ≤ K }
     requires few { K ≤ 6 }
@@ -70,17 +72,38 @@ fn node_cuts<const K: usize>(
     match node {
         Node::Fixed(value) => fixed_cuts(alloc, number, *value),
         Node::Inv(a) => inv_cuts(alloc, number, cuts[*a as usize].as_slice()),
-        Node::Nand(a, b) => nand_cuts(
-            alloc,
-            number,
-            cuts[*a as usize].as_slice(),
-            cuts[*b as usize].as_slice(),
-        ),
+        Node::Nand(a, b) => {
+            let first = cuts[*a as usize].as_slice();
+            let second = cuts[*b as usize].as_slice();
+            let pairs = best_pairs(alloc, first, second, flows)?;
+            nand_cuts(alloc, number, first, second, &pairs)
+        }
     }
 }
 
-/// At most 9 cuts of each node, each with at most K leaves, and of each input and register itself. The first node of the graph has
-/// number `held`. Takes memory for them.
+/// The same, and enters what the node costs. Takes memory for it.
+fn next_cuts<const K: usize>(
+    alloc: Global,
+    number: u32,
+    node: &Node,
+    cuts: &[Vec<Cut<K>>],
+    flows: &mut Flows,
+) -> Result<Vec<Cut<K>>, AllocError>
+    requires some { 2 ≤ K }
+    requires few { K ≤ 6 }
+    requires next { length cuts.now ≡ number }
+    requires reads { ReadsBelow number (node_view node.now) }
+    requires sound { (a : ℕ) (list : List (Cut K)) → IsNumber (map (λ v. v.items) cuts.now) a list → AreCuts a list }
+    ensures { IfOk result (λ own. AreNodeCuts (node_view node.now) number (map (λ v. v.items) cuts.now) own.items) }
+{
+    let own = node_cuts(alloc, number, node, cuts, flows)?;
+    flows.enter(own.as_slice())?;
+    Ok(own)
+}
+
+/// At most 13 cuts of each node, each with at most K leaves, and of each input and register itself: the node itself, what it reads, and
+/// the cheapest others, where each leaf's cost is shared among its readers. The first node of the graph has number `held`. Takes memory
+/// for them.
 pub fn cuts<const K: usize>(alloc: Global, held: u32, g: &Graph) -> Result<CutTable<K>, AllocError>
     requires some { 2 ≤ K }
     requires few { K ≤ 6 }
@@ -88,13 +111,14 @@ pub fn cuts<const K: usize>(alloc: Global, held: u32, g: &Graph) -> Result<CutTa
     requires earlier { EachReadsEarlier held g.now.nodes }
     ensures { IfOk result (λ t. IsCutTable held g.now.nodes (map (λ v. v.items) t.cuts.items)) }
 {
+    let mut flows = Flows::new(alloc, held, g)?;
     let mut cuts: Vec<Vec<Cut<K>>> = Vec::new(alloc);
     for number in 0..held {
         cuts.push(own_cut(alloc, number)?)?;
     }
     for node in g.nodes() {
         let number = cuts.len() as u32;
-        let own = node_cuts(alloc, number, node, &cuts)?;
+        let own = next_cuts(alloc, number, node, &cuts, &mut flows)?;
         cuts.push(own)?;
     }
     Ok(CutTable { cuts })

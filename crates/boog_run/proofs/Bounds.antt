@@ -35,7 +35,7 @@ few_registers m = omega arith
 
 few_instances : (l : Library) (m : Machine) (n : Netlist) → machine_size m ≤ MOST_SIZE → IsNetlistFor l m n → length n.instances ≤ 2 * MOST_SIZE
 few_instances l m n small netlist =
-    let few = few_cells n m netlist.graph netlist.subject netlist.each in
+    let few = few_cells n m netlist.graph netlist.subject netlist.most in
     let held = few_registers m in
     omega (arith, few, held, small)
 

@@ -1,3 +1,4 @@
+pub mod Cells
 pub mod Mapping
 pub mod Naming
 pub mod Refusing

@@ -15,7 +15,7 @@ use Rattle.vst_print.specs.Says.{WrittenIsASentence, WrittenSaysTheNetlist}
 use Rattle.boog_run.specs.declared.words.BoogCommand.{BoogCommand}
 use Rattle.tool_drive.specs.declared.tool.Product.{Product}
 use Rattle.boog_run.specs.Boog.{IsNetlistFor, IsWrittenAs, IsMapping}
-use Rattle.boog_run.specs.Laws.{MappingAgrees, MappingIsSaid}
+use Rattle.boog_run.specs.Laws.{MappingAgrees, MappingIsTight, MappingIsSaid}
 use Rattle.vst_print.specs.Text.{IsTextOf}
 use Rattle.tool_drive.specs.declared.size.TheConstants.{MOST_SIZE}
 use Rattle.boog_run.proofs.Naming.{writable}
@@ -27,6 +27,9 @@ mapping c source list cells l m n p library machine small netlist written =
 
 pub agrees : SeenIsWellFormed → MappingAgrees
 agrees law c source list cells p h k seen = law h.n h.l h.m k h.netlist.sound h.machine.machine.checked h.netlist.right h.netlist.pins seen
+
+pub tight : MappingIsTight
+tight c source list cells p h k seen = h.netlist.tight k seen
 
 pub said : MachineIsNamed → CatalIsNamed → MachineCanBeWritten → CellCanBeWritten → WrittenIsASentence → WrittenSaysTheNetlist → MappingIsSaid
 said machines lists written pins_written sentence says c source list cells p h limits =

@@ -13,7 +13,6 @@ use Rattle.cell_model.proofs.Members.{In-split, In-map, In-map_back, All-from}
 use Rattle.cell_lib.specs.Cells.{sources}
 use Rattle.cell_lib.specs.Library.{IsLibraryOf}
 use Rattle.cell_pins.specs.Table.{IsTableOf}
-use Rattle.cell_pins.proofs.Sound.{member_at}
 use Rattle.net_core.specs.declared.pins.ModelPins.{ModelPins}
 use Rattle.net_core.specs.Netlist.{Instance, Netlist}
 use Rattle.net_meaning.specs.Netlist.{Member, AbstractNetlist as Seen}
@@ -22,12 +21,12 @@ use Rattle.net_meaning.specs.Well.{gate_instance, buffer_instance}
 use Rattle.net_theory.proofs.Basics.{length-map}
 use Rattle.net_right.specs.View.{member_of}
 use Rattle.net_right.specs.Writable.{CanBeAnInstance, CanBeNamed, PinsCanBeWritten}
-use Rattle.net_right.proofs.Lists.{in_place}
 use Rattle.net_meaning.specs.Order.{IsInNetlistOrder}
 use Rattle.vbe_writable.specs.Laws.{CatalIsNamed, CellCanBeWritten, with_supplies}
 use Rattle.vst_laws.proofs.Pins.{said_in, name_in, table_written}
 use Rattle.boog_run.specs.Boog.{IsNetlistFor, IsWritable}
 use Rattle.tool_drive.specs.declared.size.TheConstants.{MOST_SIZE}
+use Rattle.boog_run.proofs.Cells.{model_cell}
 use Rattle.boog_run.proofs.Sizes.{few_cells}
 
 -- ---- names of instances
@@ -120,14 +119,14 @@ module _ (lists : CatalIsNamed) (pins_written : CellCanBeWritten) (list : List �
         let count = length-map (λ (x : Instance). x.name) n.instances in
         let same = ap (λ (names : List (List ℕ)). length names) names_are in
         let sum = many (length m.registers) in_order.gates 0 in
-        let few = few_cells n m netlist.graph netlist.subject netlist.each in
+        let few = few_cells n m netlist.graph netlist.subject netlist.most in
         named_so (length m.registers) in_order.gates 0 i.name (omega (arith, few, small, count, same, sum))
         (subst (λ (ns : List (List ℕ)). In i.name ns) names_are (In-map (λ (x : Instance). x.name) i n.instances there_is))
 
     model_named : (i : Instance) → In i n.instances → IsIdentifier i.model
     model_named i at =
-        let u = netlist.first i (in_place i n.instances at) in
-        subst (λ (t : List ℕ). IsIdentifier t) (sym u.3) (cell_named u.1 (member_at l.cells u.2.place u.1 u.2.stands))
+        let u = model_cell n l m netlist.right i at in
+        subst (λ (t : List ℕ). IsIdentifier t) u.2 (cell_named u.0 u.1)
 
     pub can_be_named : IsIdentifier m.name → CanBePorts (with_supplies m.ports) → CanBeNamed n
     can_be_named name ports = record {

@@ -16,14 +16,12 @@ use Rattle.cell_lib.specs.Cells.{sources}
 use Rattle.cell_lib.specs.Library.{IsLibraryOf}
 use Rattle.cell_pins.specs.Pins.{supply, with_supply}
 use Rattle.cell_pins.proofs.Ports.{in_filter}
-use Rattle.cell_pins.proofs.Sound.{member_at}
 use Rattle.net_core.specs.Netlist.{Instance, Netlist}
 use Rattle.net_meaning.specs.Netlist.{Member, AbstractNetlist as Seen}
 use Rattle.net_meaning.specs.Agreement.{register_instance}
 use Rattle.net_meaning.specs.Well.{gate_instance, buffer_instance}
 use Rattle.net_theory.proofs.Basics.{length-map}
 use Rattle.net_right.specs.Writable.{IsShort, HasShortNames}
-use Rattle.net_right.proofs.Lists.{in_place}
 use Rattle.net_meaning.specs.Order.{IsInNetlistOrder}
 use Rattle.vbe_writable.specs.Laws.{CatalIsShort}
 use Rattle.boog_run.specs.Boog.{IsNetlistFor}
@@ -31,6 +29,7 @@ use Rattle.boog_run.specs.Laws.{NetlistIsShort}
 use Rattle.tool_drive.specs.declared.size.TheConstants.{MOST_SIZE}
 use Rattle.vst_laws.proofs.Pins.{said_in, name_in}
 use Rattle.boog_run.proofs.Naming.{counted, names_by, same_names, many}
+use Rattle.boog_run.proofs.Cells.{model_cell}
 use Rattle.boog_run.proofs.Sizes.{few_cells}
 
 -- ---- ports, with the supplies among them
@@ -94,7 +93,7 @@ module _ (list : List ℕ) (files : List (List ℕ)) (l : Library) (library : Is
       let count = length-map (λ (x : Instance). x.name) n.instances in
       let same = ap (λ (names : List (List ℕ)). length names) names_are in
       let sum = many (length m.registers) in_order.gates 0 in
-      let few = few_cells n m netlist.graph netlist.subject netlist.each in
+      let few = few_cells n m netlist.graph netlist.subject netlist.most in
       short_so (length m.registers) in_order.gates 0 i.name (omega (arith, few, small, count, same, sum))
       (subst (λ (ns : List (List ℕ)). In i.name ns) names_are (In-map (λ (x : Instance). x.name) i n.instances at))
 
@@ -105,8 +104,8 @@ module _ (list : List ℕ) (files : List (List ℕ)) (l : Library) (library : Is
 
   model_short : CatalIsShort → (i : Instance) → In i n.instances → IsShort i.model
   model_short lists i at =
-      let u = netlist.first i (in_place i n.instances at) in
-      subst (λ (t : List ℕ). IsShort t) (sym u.3) (cell_short lists u.1 (member_at l.cells u.2.place u.1 u.2.stands))
+      let u = model_cell n l m netlist.right i at in
+      subst (λ (t : List ℕ). IsShort t) u.2 (cell_short lists u.0 u.1)
 
   port_small : ((p : Port) → In p m.ports → IsSmallPort p) → (p : Port) → In p n.ports → IsSmallPort p
   port_small ports p i =

@@ -44,9 +44,9 @@ abbrev pub report : Netlist → List ℕ
 report n = count_line (codes "cells") (length n.instances)
 
 -- A netlist for a machine. The library has a usable cell of each kind that mapping needs. The netlist is right for the machine, each
--- instance has the pins of its cell, it meets the condition of the stages behind, has for each kind the first usable cell, stands in
--- order, and is lean: it has one cell for each register and for each node of the machine's subject graph that a root reaches, and no
--- other.
+-- instance has the pins of its cell, it meets the condition of the stages behind, stands in order, and is lean: it has at most one
+-- cell for each register and for each node of the machine's subject graph that a root reaches, and its gates have few inputs. It is
+-- tight: no usable cell of the library could stand for two of its gates.
 pub record IsNetlistFor (l : Library) (m : Machine) (n : Netlist) : Type 0 where
   pub sound : IsNetlist n
   pub covered : Covers l m

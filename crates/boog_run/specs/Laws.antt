@@ -13,6 +13,7 @@ use Rattle.net_meaning.specs.Well.{IsWell}
 use Rattle.net_meaning.specs.Agreement.{Agrees}
 use Rattle.net_right.specs.View.{IsSeenAs}
 use Rattle.net_right.specs.Writable.{HasShortNames}
+use Rattle.net_tight.specs.Tight.{IsTight}
 use Rattle.vst_print.specs.Says.{IsWithinLimits}
 use Rattle.vst_print.specs.Text.{IsTextOf}
 use Rattle.vbe_writable.specs.Declared.{CanBeDeclared}
@@ -28,6 +29,13 @@ abbrev pub MappingAgrees : Type 0
 MappingAgrees =
     (c : BoogCommand) (source catal : List ℕ) (cells : List (List ℕ)) (p : Product) (h : IsMapping c source catal cells p)
     → (k : Seen) → IsSeenAs h.n k → IsWell k h.l h.m × Agrees k h.l h.m
+
+-- As every netlist of a layout that it can be seen as, it is tight: where a gate's output is read by one pin alone, and by no port, no
+-- usable cell of the library computes what this gate and its reader compute, from the same classes.
+abbrev pub MappingIsTight : Type 0
+MappingIsTight =
+    (c : BoogCommand) (source catal : List ℕ) (cells : List (List ℕ)) (p : Product) (h : IsMapping c source catal cells p)
+    → (k : Seen) → IsSeenAs h.n k → IsTight k h.l
 
 -- Where names, numbers and declared bits are within the limits of texts, the file that is written is such a text of it.
 abbrev pub MappingIsSaid : Type 0

@@ -1,5 +1,5 @@
 // Laws: what follows of a netlist that is written. They cost nothing when they are called.
-ghost use Rattle.boog_run.specs.Laws.{MappingAgrees, MappingIsSaid, SourceCanBeDeclared, NetlistIsWritable, NetlistIsShort, NetlistIsSmall};
+ghost use Rattle.boog_run.specs.Laws.{MappingAgrees, MappingIsTight, MappingIsSaid, SourceCanBeDeclared, NetlistIsWritable, NetlistIsShort, NetlistIsSmall};
 
 use net_right::right_is_well_formed;
 use vbe_writable::{
@@ -7,10 +7,12 @@ use vbe_writable::{
 };
 use vst_print::{written_is_a_sentence, written_says_the_netlist};
 
-/// The netlist that `boog` writes is well formed for the machine of its source and behaves as this does. And its file, where names,
-/// numbers and bits are within the limits of structural texts, is a sentence of their grammar which says the netlist.
+/// The netlist that `boog` writes is well formed for the machine of its source and behaves as this does. It is tight: no usable cell of
+/// the library could stand for two of its gates. And its file, where names, numbers and bits are within the limits of structural texts,
+/// is a sentence of their grammar which says the netlist.
 pub fn boog_law()
     ensures agrees { MappingAgrees }
+    ensures tight { MappingIsTight }
     ensures said { MappingIsSaid }
 {
     right_is_well_formed();

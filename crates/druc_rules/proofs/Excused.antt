@@ -1,18 +1,31 @@
 -- When two shapes that don't touch are excused, by their places.
-use Rattle.std.proofs.Common.{◌≡◌, ℕ, ◌<◌, ◌⊎◌, inl, inr, List, length, get_or, Option, None, Some, refl, sym, ◌∙◌, ap, subst}
+use Rattle.std.proofs.Common.{◌≡◌, ℕ, ◌<◌, ◌⊎◌, inl, inr, List, length, get_or, Option, None, Some, refl, sym, ◌∙◌, ap, subst, arith}
 use Rattle.vlsi_base.specs.Member.{In}
 use Rattle.cell_model.proofs.Members.{In-at, place-In}
-use Rattle.sym_geom.specs.Rect.{Meet}
+use Rattle.std.proofs.lemmas.Int.{ints}
+use Rattle.sym_geom.specs.Rect.{Meet, Within}
 use Rattle.sym_geom.specs.declared.rect.Rect.{Rect}
 use Rattle.sym_shapes.specs.Shape.{Shape}
 use Rattle.sym_shapes.specs.Joints.{NumbersJoined}
 use Rattle.net_meaning.specs.Breaches.{IsOverPin, IsBridged, IsExcused, one_instance, first_over_pin, second_over_pin, joined_first, joined_second, first_bridged, second_bridged}
 use Rattle.sym_near.proofs.Sweeps.{at_any}
-use Rattle.sym_near.specs.Related.{nowhere, shape_at}
+use Rattle.sym_near.specs.Related.{nowhere, shape_at, IsOverPin as LiesOverPin}
 use Rattle.druc_rules.specs.Excuses.{AreOfOne, Excuses, IsCovered, AreTied}
 
 meet_back : (a b : Rect) → Meet a b → Meet b a
 meet_back a b m = record { left = m.right; right = m.left; low = m.high; high = m.low }
+
+-- what holds one that meets another meets it too
+meet_wider : (a b c : Rect) → Within a b → Meet a c → Meet b c
+meet_wider a b c w m = record {
+  left = let x = w.left in let y = m.left in omega (arith, ints, x, y);
+  right = let x = w.right in let y = m.right in omega (arith, ints, x, y);
+  low = let x = w.low in let y = m.low in omega (arith, ints, x, y);
+  high = let x = w.high in let y = m.high in omega (arith, ints, x, y);
+}
+
+taken : {A : Type 0} (o : Option A) (x : A) → o ≡ Some x → o ≡ None → ⊥
+taken o x h e = let clash : None ≡ Some x = sym e ∙ h in absurd (cc clash)
 
 module _ (all : List Shape) (i j : ℕ) where
   -- a third shape, which covers the first, is a pin of the second's instance or touches the second
@@ -20,7 +33,7 @@ module _ (all : List Shape) (i j : ℕ) where
   covered_is c =
       let listed : In (shape_at all c.third) all = In-at all c.third nowhere c.holds.second in
       elim c.excuses [
-        | inl touches ↦ inr (record { third = shape_at all c.third; listed = listed; metal = sym c.holds.metal; within = c.holds.is.1; touches = touches })
+        | inl touches ↦ inr (record { third = shape_at all c.third; listed = listed; metal = sym c.holds.metal; within = c.holds.is.1.0; touches = touches })
         | inr pin ↦ inl (record {
           drawn = pin.0;
           owner = pin.2.0;
@@ -31,7 +44,7 @@ module _ (all : List Shape) (i j : ℕ) where
           of_owner = pin.2.1;
           named = pin.1.1;
           metal = sym c.holds.metal;
-          within = c.holds.is.1;
+          within = c.holds.is.1.0;
         })
       ]
 
@@ -44,9 +57,11 @@ module _ (all : List Shape) (i j : ℕ) where
         let same : (shape_at all i).owner ≡ o.pin.owner = ap (λ (x : ℕ). (shape_at all x).owner) e ∙ ap (λ (s : Shape). s.owner) stands in
         let clash : None ≡ Some o.owner = sym o.drawn ∙ same ∙ o.of_owner in
         absurd (cc clash) in
+        let over : LiesOverPin (shape_at all i) (shape_at all k.0) =
+        record { drawn = o.drawn; owned = λ e. taken _ o.owner (rw stands o.of_owner) e; named = λ e. taken _ o.name (rw stands o.named) e } in
         record {
           third = k.0;
-          holds = record { first = low; second = k.1; metal = sym o.metal ∙ sym (ap (λ (s : Shape). s.metal) stands); is = (other, rw stands o.within) };
+          holds = record { first = low; second = k.1; metal = sym o.metal ∙ sym (ap (λ (s : Shape). s.metal) stands); is = (other, (rw stands o.within, inr over)) };
           excuses = inr (o.drawn, (o.name, rw stands o.named), (o.owner, rw stands o.of_owner, o.owned));
         }
 
@@ -57,9 +72,11 @@ module _ (all : List Shape) (i j : ℕ) where
         let other : i ≡ k.0 → ⊥ = λ e.
         let same : b.third ≡ shape_at all i = sym (ap (λ (x : ℕ). shape_at all x) e ∙ stands) in
         apart (subst (λ (s : Shape). Meet s.rect (shape_at all j).rect) same b.touches) in
+        let touches : Meet (shape_at all k.0).rect (shape_at all j).rect = rw stands b.touches in
+        let larger : Within (shape_at all k.0).rect (shape_at all i).rect → ⊥ = λ w. apart (meet_wider (shape_at all k.0).rect (shape_at all i).rect (shape_at all j).rect w touches) in
         record {
           third = k.0;
-          holds = record { first = low; second = k.1; metal = sym b.metal ∙ sym (ap (λ (s : Shape). s.metal) stands); is = (other, rw stands b.within) };
+          holds = record { first = low; second = k.1; metal = sym b.metal ∙ sym (ap (λ (s : Shape). s.metal) stands); is = (other, (rw stands b.within, inl larger)) };
           excuses = inl (rw stands b.touches);
         }
 

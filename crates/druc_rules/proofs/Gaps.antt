@@ -1,5 +1,5 @@
 -- The pairs of shapes that are too near, among those that are near; the drawn shapes that are too narrow.
-use Rattle.std.proofs.Common.{◌≡◌, ℕ, ◌+◌, ◌<◌, List, [], ◌∷◌, ◌++◌, map, length, take, get_or, refl, sym, ◌∙◌, ap, subst, append_assoc, arith}
+use Rattle.std.proofs.Common.{◌≡◌, ℕ, ◌+◌, ◌<◌, List, [], ◌∷◌, ◌++◌, map, length, take, get_or, refl, sym, ◌∙◌, ap, subst, append_assoc, append-nil, arith}
 use Rattle.std.specs.List.{Contains}
 use Rattle.std.proofs.lemmas.List.{take_more}
 use Rattle.vlsi_base.specs.Member.{In, Picks, done}
@@ -113,6 +113,11 @@ module _ (all : List Shape) (least : ℕ) (near : List Pair) (are : AreRelated a
             (picks_map (both_at all nowhere) P (keys_from 0 all) a.chosen at_places);
         are = a.are ∙ ap (λ (fs : List Found). olds ++ fs) (sym (map_twice (λ (q : Shape × Shape). breach.Gap q.0.metal q.0.rect q.1.rect) (both_at all nowhere) a.chosen));
       }
+
+-- where no two are near, nothing is added
+pub gaps_none : (all : List Shape) (least : ℕ) (near : List Pair) (found : List Found) → AreRelated all (relation.Near least) near → near ≡ [] → AddsGaps least all found found
+gaps_none all least near found are none =
+    gaps_are all least near are found found (subst (λ (ps : List Pair). AddsChosen all ps found found) (sym none) (chosen_none all found found (sym (append-nil found))))
 
 -- ---- loops
 

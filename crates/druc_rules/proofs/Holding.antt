@@ -28,12 +28,12 @@ rises (p ∷ ps) r zero (suc j) d le low =
 rises (p ∷ ps) r (suc i) zero d le low = absurd (omega arith)
 rises (p ∷ ps) r (suc i) (suc j) d le low = rises ps r.1 i j d (omega arith) (omega arith)
 
-pub does_not_fall : (all : List Shape) (ps : List Pair) → AreRelated all relation.Within ps → IsNonDecreasingBy (λ (p : Pair). p.first) ps
+pub does_not_fall : (all : List Shape) (ps : List Pair) → AreRelated all relation.Held ps → IsNonDecreasingBy (λ (p : Pair). p.first) ps
 does_not_fall all ps are i j d le low = rises ps (rising_so ps are.sorted) i j d le low
 
-module _ (all : List Shape) (ps : List Pair) (i j : ℕ) (are : AreRelated all relation.Within ps) where
+module _ (all : List Shape) (ps : List Pair) (i j : ℕ) (are : AreRelated all relation.Held ps) where
   -- the pair at a place holds
-  pub holds_at : (k : ℕ) → k < length ps → Relates all relation.Within (holder ps k).first (holder ps k).second
+  pub holds_at : (k : ℕ) → k < length ps → Relates all relation.Held (holder ps k).first (holder ps k).second
   holds_at k low = are.sound (holder ps k) (k, low, at_any ps k (holder ps k) (record { first = 0; second = 0 }) low)
 
   pub none_before : (n : ℕ) → IsFirstFrom ps i n → NoneCovers all ps i j n
@@ -48,7 +48,7 @@ module _ (all : List Shape) (ps : List Pair) (i j : ℕ) (are : AreRelated all r
   pub covers_at : (k : ℕ) → k < length ps → (holder ps k).first ≡ i → Excuses (shape_at all i) (shape_at all j) (shape_at all (holder ps k).second) → IsCovered all i j
   covers_at k low is h = record {
     third = (holder ps k).second;
-    holds = subst (λ (x : ℕ). Relates all relation.Within x (holder ps k).second) is (holds_at k low);
+    holds = subst (λ (x : ℕ). Relates all relation.Held x (holder ps k).second) is (holds_at k low);
     excuses = h;
   }
 

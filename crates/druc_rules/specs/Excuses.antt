@@ -17,7 +17,7 @@ AreOfOne a b = (owner : List ℕ) × (a.owner ≡ Some owner) × (b.owner ≡ So
 abbrev pub HasName : Shape → Type 0
 HasName s = (name : Name) × (s.name ≡ Some name)
 
--- a third shape, within which the first lies, excuses the two: it touches the second, or the first is drawn and the third is a
+-- a third shape, which holds the first, excuses the two: it touches the second, or the first is drawn and the third is a
 -- connector of the second's instance
 abbrev pub Excuses : Shape → Shape → Shape → Type 0
 Excuses a b third = Meet third.rect b.rect ⊎ ((a.owner ≡ None) × HasName third × AreOfOne third b)
@@ -25,7 +25,7 @@ Excuses a b third = Meet third.rect b.rect ⊎ ((a.owner ≡ None) × HasName th
 -- some shape, at another place than the first, does
 pub record IsCovered (all : List Shape) (i j : ℕ) : Type 0 where
   pub third : ℕ
-  pub holds : Relates all relation.Within i third
+  pub holds : Relates all relation.Held i third
   pub excuses : Excuses (shape_at all i) (shape_at all j) (shape_at all third)
 
 -- one of them is of an instance, and a chain of links joins them
@@ -33,12 +33,12 @@ pub record AreTied (all : List Shape) (a b : Shape) : Type 0 where
   pub of_instance : (owner : List ℕ) × ((a.owner ≡ Some owner) ⊎ (b.owner ≡ Some owner))
   pub joined : Joined all a b
 
--- what is known of the shapes of a layout: a number for each, which tells the joined ones, and which lie within which
+-- what is known of the shapes of a layout: a number for each, which tells the joined ones, and which hold which
 pub record IsKnown (l : Layout) : Type 0 where
   pub few : length l.shapes.now < 2 ^ 32
   pub count : length l.numbers.now ≡ length l.shapes.now
   pub joined : NumbersJoined l.shapes.now l.numbers.now
-  pub holders : AreRelated l.shapes.now relation.Within l.holders.now
+  pub holders : AreRelated l.shapes.now relation.Held l.holders.now
 
 -- the first of the pairs whose first shape is at this place or behind it
 pub record IsFirstFrom (ps : List Pair) (place first : ℕ) : Type 0 where

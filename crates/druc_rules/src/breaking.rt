@@ -91,10 +91,13 @@ fn gaps(
 {
     let numbers = joints(alloc, shapes)?;
     let pairs = near_pairs(alloc, shapes, least)?;
+    if pairs.near.is_empty() {
+        return Ok(());
+    }
     let layout = Layout {
         shapes,
         numbers: &numbers,
-        holders: &pairs.within,
+        holders: &pairs.held,
     };
     put_gaps(found, &layout, &pairs.near, least)
 }
@@ -108,9 +111,10 @@ fn gaps(
 /// It is refused by `UnknownCell` exactly where the model of an instance isn't in the library, at the first such; and else by
 /// `Limit` of `Size` exactly where there are 2^32 or more shapes, with their number.
 ///
-/// Takes memory for the shapes, for a few entries a shape and for the pairs of near shapes and of those that lie within others;
-/// time for these, times the logarithm of their number, for the pairs of shapes that lie beside one another in one band of their
-/// metal, and for each instance and each cell.
+/// Takes memory for the shapes, for a few entries a shape, for the pairs of near shapes and, where there are such, for those of
+/// which one lies within the other and is smaller, or is drawn over a pin that it coincides with; time for these, times the
+/// logarithm of their number, for the pairs of shapes that lie beside one another in one band of their metal, and for each
+/// instance and each cell.
 pub fn broken(
     alloc: Global,
     figure: &Figure,

@@ -10,8 +10,8 @@ use sym_geom::touches;
 use sym_near::Pair;
 use sym_shapes::Shape;
 
-/// The shapes of a layout, a number for each, which tells the joined ones, and the pairs of which the first lies within the
-/// second.
+/// The shapes of a layout, a number for each, which tells the joined ones, and the pairs of which the second holds the
+/// first.
 #[derive(Clone, Copy)]
 pub struct Layout<'a> {
     pub shapes: &'a [Shape],
@@ -29,7 +29,7 @@ fn are_of_one(a: &Shape, b: &Shape) -> bool
     }
 }
 
-/// Whether a third shape, within which the first lies, excuses the two.
+/// Whether a third shape, which holds the first, excuses the two.
 fn excuses(a: &Shape, b: &Shape, third: &Shape) -> bool
     ensures { IsTrue result ↔ Excuses a.now b.now third.now }
 {
@@ -47,7 +47,7 @@ fn first_from(pairs: &[Pair], place: u32) -> usize
     pairs.partition_point(|pair| pair.first < place)
 }
 
-/// Whether some shape, within which the first of two lies, excuses them.
+/// Whether some shape, which holds the first of two, excuses them.
 fn is_covered(layout: &Layout<'_>, first: u32, second: u32) -> bool
     requires known { IsKnown layout.now }
     requires first { first < length layout.now.shapes.now }

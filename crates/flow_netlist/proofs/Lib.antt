@@ -3,6 +3,7 @@ pub mod Counts
 pub mod Pins
 pub mod Mapped
 pub mod Order
+pub mod Tight
 pub mod Bounds
 pub mod Named
 pub mod Good

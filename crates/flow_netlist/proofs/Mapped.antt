@@ -1,5 +1,6 @@
 -- What buffers and drives ask of a netlist that is mapped, and what is known of its instances.
 use Rattle.std.proofs.Common.{◌≡◌, inr, ℕ, ◌+◌, ◌*◌, ◌≤◌, false, List, map, filter, length, Option, Some, sym, ◌∙◌, ap, subst, arith, length-append}
+use Rattle.std.specs.Prelude.{sum_by}
 use Rattle.std.specs.List.{flat_map}
 use Rattle.vlsi_base.specs.declared.name.Name.{Name}
 use Rattle.vlsi_base.specs.declared.name.Port.{Port}
@@ -9,12 +10,11 @@ use Rattle.machine_core.specs.Machine.{Machine}
 use Rattle.machine_core.specs.Size.{machine_size}
 use Rattle.machine_core.specs.Checked.{IsChecked}
 use Rattle.source_checks.specs.Checks.{most_ports}
-use Rattle.vlsi_base.specs.declared.kind.Kind.{Kind}
 use Rattle.vlsi_base.specs.declared.kind.Kind.TheVariants as kind
 use Rattle.cell_model.specs.Cell.{Cell}
 use Rattle.cell_model.specs.Library.{Library, cell_of, IsUsable}
-use Rattle.cell_model.specs.Covering.{HasKind}
-use Rattle.cell_model.proofs.Members.{In-map}
+use Rattle.cell_model.specs.Usable.{IsFormed}
+use Rattle.cell_model.proofs.Members.{All-In, In-map}
 use Rattle.cell_checks.specs.Checked.{IsChecked as HasPassed}
 use Rattle.cell_pins.specs.Pins.{supply}
 use Rattle.cell_pins.specs.Table.{IsTableOf}
@@ -26,12 +26,12 @@ use Rattle.net_core.specs.Checks.{IsPinTable}
 use Rattle.net_theory.proofs.Basics.{length-map}
 use Rattle.net_meaning.specs.Netlist.{Member, AbstractNetlist as Seen}
 use Rattle.net_right.proofs.Lists.{in_place}
+use Rattle.net_right.proofs.Models.{named_cell}
 use Rattle.net_right.proofs.Places.{port_there}
 use Rattle.net_right.proofs.Ports.{with_both, vdd_there, vss_there}
 use Rattle.net_right.proofs.Seen.{right_cell}
 use Rattle.net_meaning.specs.Order.{IsInNetlistOrder}
 use Rattle.delay_sta.specs.Timed.{CanBeTimed}
-use Rattle.boog_map.proofs.Seating.{cell_found}
 use Rattle.loon_loads.specs.Sinks.{is_sink_of}
 use Rattle.loon_fanout.specs.Sinks.{instance_sinks, all_sinks}
 use Rattle.loon_wiring.specs.Repeaters.{NoneRepeats}
@@ -41,18 +41,17 @@ use Rattle.loon_drive.specs.Laws.{HasNoBufferNames}
 use Rattle.boog_run.specs.Boog.{IsNetlistFor}
 use Rattle.tool_drive.specs.declared.size.TheConstants.{MOST_SIZE}
 use Rattle.boog_run.proofs.Naming.{same_names}
-use Rattle.boog_run.proofs.Sizes.{few_cells}
+use Rattle.boog_run.proofs.Sizes.{few_cells, few_pins as pins_by_graph}
 use Rattle.flow_netlist.proofs.Names.{names_by, no_buffer_name}
-use Rattle.flow_netlist.proofs.Counts.{flat_few}
-use Rattle.flow_netlist.proofs.Pins.{pin_names, both_few, kind_pins, kind_sinks}
+use Rattle.flow_netlist.proofs.Counts.{flat_sum, flat_less}
+use Rattle.flow_netlist.proofs.Pins.{pin_names, both_few, sinks_and_three}
 
--- an instance has a usable cell of a kind, and its pins
-pub record IsOfKind (l : Library) (i : Instance) : Type 0 where
+-- an instance has a usable cell of the library, and its pins
+pub record IsOfCell (l : Library) (i : Instance) : Type 0 where
   pub cell : Cell
-  pub kind : Kind
   pub found : cell_of l i.model ≡ Some cell
+  pub formed : IsFormed cell
   pub usable : IsUsable cell
-  pub told : HasKind cell kind
   pub pins : i.pins ≡ pin_names cell
 
 -- each register weighs 5
@@ -81,7 +80,14 @@ module _ (l : Library) (m : Machine) (n : Netlist) (mapped : IsNetlistFor l m n)
   -- at most 3276 registers, and 16386 gates
   pub few_instances : machine_size m ≤ MOST_SIZE → length n.instances ≤ 19662
   few_instances small =
-      let few = few_cells n m mapped.graph mapped.subject mapped.each in
+      let few = few_cells n m mapped.graph mapped.subject mapped.most in
+      let held = few_registers m in
+      omega (arith, few, held, small)
+
+  -- beside an output and two supplies of each, they have at most 39324 pins
+  pub few_pins : machine_size m ≤ MOST_SIZE → sum_by (λ (i : Instance). length i.pins) n.instances ≤ 3 * length n.instances + 39324
+  few_pins small =
+      let few = pins_by_graph n m mapped.graph mapped.subject mapped.few in
       let held = few_registers m in
       omega (arith, few, held, small)
 
@@ -109,39 +115,37 @@ module _ (l : Library) (m : Machine) (n : Netlist) (mapped : IsNetlistFor l m n)
   pub repeats : NoneRepeats l.cells → ⊥
   repeats none = let c = mapped.covered kind.Inv here in none c.cell c.listed (inr (c.usable, c.kind))
 
-  module _ (passed : HasPassed false l) where
-    pub of_kind : (i : Instance) → IsThere n.instances i → IsOfKind l i
-    of_kind i at =
-        let u = mapped.first i at in
-        let found : cell_of l i.model ≡ Some u.1 = ap (cell_of l) u.3 ∙ cell_found l.cells passed.names u.1 (member_at l.cells u.2.place u.1 u.2.stands) in
-        record { cell = u.1; kind = u.0; found = found; usable = u.2.usable; told = u.2.kind; pins = mapped.pins i u.1 at found }
+  pub has_room : length m.ports ≤ most_ports → machine_size m ≤ MOST_SIZE → HasRoomForGates n
+  has_room ports small =
+      let pins = flat_sum pins_of (λ (i : Instance). length i.pins) n.instances (λ i. length-map (pin_of i.name) i.pins) in
+      let few = few_pins small in
+      let instances = few_instances small in
+      let all = few_ports ports in
+      let names = length-map (λ (p : Port). port p.name) n.ports in
+      let sum = length-append (map (λ (p : Port). port p.name) n.ports) (flat_map pins_of n.instances) in
+      omega (arith, pins, few, instances, all, names, sum)
 
-    few_pins : (i : Instance) → IsThere n.instances i → length (pins_of i) ≤ 5
-    few_pins i at =
-        let c = of_kind i at in
-        let few = kind_pins c.cell c.kind c.usable c.told in
-        let same = ap (λ (ns : List Name). length ns) c.pins in
-        let long = length-map (pin_of i.name) i.pins in
-        omega (arith, few, same, long)
+  module _ (passed : HasPassed false l) (checked : IsChecked m) where
+    pub of_cell : (i : Instance) → IsThere n.instances i → IsOfCell l i
+    of_cell i at =
+        let c = (of_cells checked).found i at in
+        let listed = named_cell l.cells i.model c.0 c.1 in
+        record { cell = c.0; found = c.1; formed = All-In IsFormed l.cells passed.formed c.0 listed.0; usable = c.2; pins = c.3 }
 
-    pub has_room : length m.ports ≤ most_ports → machine_size m ≤ MOST_SIZE → HasRoomForGates n
-    has_room ports small =
-        let pins = flat_few pins_of 5 n.instances few_pins in
-        let instances = few_instances small in
-        let few = few_ports ports in
-        let names = length-map (λ (p : Port). port p.name) n.ports in
-        let sum = length-append (map (λ (p : Port). port p.name) n.ports) (flat_map pins_of n.instances) in
-        omega (arith, pins, instances, few, names, sum)
-
-    few_of_one : (i : Instance) → IsThere n.instances i → length (instance_sinks l i) ≤ 2
+    -- the sinks of an instance are three less than its pins at most
+    few_of_one : (i : Instance) → IsThere n.instances i → length (instance_sinks l i) + 3 ≤ length i.pins
     few_of_one i at =
-        let c = of_kind i at in
-        let few = kind_sinks c.cell c.kind c.usable c.told in
+        let c = of_cell i at in
+        let few = sinks_and_three c.cell c.formed c.usable in
         let same =
         ap (λ (o : Option Cell). length (filter (is_sink_of o) i.pins)) c.found
         ∙ ap (λ (ns : List Name). length (filter (is_sink_of (Some c.cell)) ns)) c.pins in
+        let pins = ap (λ (ns : List Name). length ns) c.pins in
         let long = length-map (pin_of i.name) (filter (is_sink_of (cell_of l i.model)) i.pins) in
-        omega (arith, few, same, long)
+        omega (arith, few, same, pins, long)
 
-    pub few_sinks : length (all_sinks l n.instances) ≤ 2 * length n.instances
-    few_sinks = flat_few (instance_sinks l) 2 n.instances few_of_one
+    pub few_sinks : machine_size m ≤ MOST_SIZE → length (all_sinks l n.instances) ≤ 39324
+    few_sinks small =
+        let less = flat_less (instance_sinks l) (λ (i : Instance). length i.pins) n.instances few_of_one in
+        let pins = few_pins small in
+        omega (arith, less, pins)

@@ -1,5 +1,5 @@
 -- How many pins usable cells have, how many of these are no supplies, and how many are sinks.
-use Rattle.std.proofs.Common.{◌≡◌, inl, inr, ℕ, ◌+◌, ◌≤◌, Bool, true, false, not, ◌&&◌, List, [], ◌∷◌, filter, length, Some, refl, ◌∙◌, ap, subst, arith, length-append}
+use Rattle.std.proofs.Common.{◌≡◌, inl, inr, ◌+◌, ◌≤◌, Bool, true, false, not, ◌&&◌, List, [], ◌∷◌, filter, length, Some, refl, ◌∙◌, ap, subst, arith, length-append}
 use Rattle.std.specs.Ordering.{is_lt, ordering_reverse}
 use Rattle.std.specs.declared.cmp.Ordering.TheVariants.{Greater}
 use Rattle.std.specs.List.{list_any}
@@ -10,15 +10,13 @@ use Rattle.vlsi_base.specs.Name.{name_cmp}
 use Rattle.vlsi_base.specs.Names.{vdd, vss, comes_before}
 use Rattle.vlsi_base.specs.Member.{In, here, there, AllDifferent}
 use Rattle.vlsi_base.proofs.NameOrder.{name_total}
-use Rattle.bool_expr.specs.Expression.{Expression}
 use Rattle.machine_core.specs.Machine.{is_input, names_of}
 use Rattle.machine_core.specs.Named.{is_same_name}
 use Rattle.machine_core.proofs.Names.{same_name-true}
-use Rattle.vlsi_base.specs.declared.kind.Kind.{Kind}
-use Rattle.vlsi_base.specs.declared.kind.Kind.TheVariants as kind
 use Rattle.cell_model.specs.Cell.{Function, gate, flip_flop, other, opaque, Cell, pin_ports, cell_inputs, cell_outputs}
 use Rattle.cell_model.specs.Library.{IsUsable, IsPlain}
-use Rattle.cell_model.specs.Covering.{IsGateOf, IsFunctionOf, HasKind}
+use Rattle.cell_model.specs.Usable.{IsFormed}
+use Rattle.cell_model.proofs.Members.{In-map}
 use Rattle.cell_pins.specs.Pins.{supply, with_supply, all_ports}
 use Rattle.cell_pins.proofs.Ports.{before_less, in_filter, sorted_of, sorted_supply, sorted_different}
 use Rattle.net_theory.proofs.Basics.{length-map}
@@ -27,6 +25,7 @@ use Rattle.net_right.proofs.Ports.{supplies_differ, names_to}
 use Rattle.ocp_place.specs.Nets.{is_signal}
 use Rattle.loon_loads.specs.Sinks.{is_clock_of, is_sink_pin, is_sink_of}
 use Rattle.loon_fanout.proofs.FewInputs.{few_members}
+use Rattle.boog_map.proofs.Supplied.{two_longer}
 use Rattle.loon_fanout.proofs.Picking.{any_in, different_filter}
 use Rattle.flow_netlist.proofs.Counts.{apart_few}
 
@@ -67,25 +66,9 @@ signals_few c =
     (no_signals (pin_names c) (names_to (pin_ports c) vdd (inl refl)) (names_to (pin_ports c) vss (inr (inl refl)))) in
     omega (arith, both, two)
 
--- ---- cells of a kind
+-- ---- usable cells
 
-gate_inputs : (e : Expression) (n : ℕ) (k : Kind) → IsGateOf e n k → n ≤ 2
-gate_inputs e n kind.Inv is = let few = is.0 in omega (arith, few)
-gate_inputs e n kind.Nand2 is = let few = is.0 in omega (arith, few)
-gate_inputs e n kind.Zero is = let few = is.0 in omega (arith, few)
-gate_inputs e n kind.One is = let few = is.0 in omega (arith, few)
-gate_inputs e n kind.Dff is = absurd is
-
--- a usable cell of a kind has two inputs at most
-kind_inputs : (c : Cell) (k : Kind) → IsUsable c → HasKind c k → length (cell_inputs c) ≤ 2
-kind_inputs c k usable told = by c.function usable.function told where
-  by : (f : Function) → IsPlain c f → IsFunctionOf f (length (cell_inputs c)) k → length (cell_inputs c) ≤ 2
-  by (gate e) plain is = gate_inputs e (length (cell_inputs c)) k is
-  by (flip_flop d ck) plain is = let two = plain.1 in omega (arith, two)
-  by (other m) plain is = absurd plain
-  by opaque plain is = absurd plain
-
--- and one output
+-- a usable cell has one output
 one_output : (c : Cell) → IsUsable c → length (cell_outputs c) ≡ 1
 one_output c usable = by c.function usable.function where
   by : (f : Function) → IsPlain c f → length (cell_outputs c) ≡ 1
@@ -94,30 +77,29 @@ one_output c usable = by c.function usable.function where
   by (other m) plain = absurd plain
   by opaque plain = absurd plain
 
--- so it has five pins at most
-pub kind_pins : (c : Cell) (k : Kind) → IsUsable c → HasKind c k → length (pin_names c) ≤ 5
-kind_pins c k usable told =
-    let ins = kind_inputs c k usable told in
+-- so beside its inputs it has three pins
+pub inputs_and_three : (c : Cell) → IsFormed c → IsUsable c → length (pin_names c) ≡ length (cell_inputs c) + 3
+inputs_and_three c formed usable =
     let outs = one_output c usable in
     let both = length-filter_both (λ (p : Port). is_input p.dir) (λ (p : Port). not (is_input p.dir)) (λ p. refl) (pin_ports c) in
     let a = length-map (λ (p : Port). p.name) (filter (λ (p : Port). is_input p.dir) (pin_ports c)) in
     let b = length-map (λ (p : Port). p.name) (filter (λ (p : Port). not (is_input p.dir)) (pin_ports c)) in
-    let all = both_few (pin_ports c) in
+    let all = two_longer (pin_ports c) (sorted_of (pin_ports c) usable.order) (λ p i. formed.signals p.name (In-map (λ (q : Port). q.name) p (pin_ports c) i)) in
     let names = length-map (λ (p : Port). p.name) (all_ports c) in
-    omega (arith, ins, outs, both, a, b, all, names)
+    omega (arith, outs, both, a, b, all, names)
 
 left_true : (a b : Bool) → (a && b) ≡ true → a ≡ true
 left_true true b e = refl
 left_true false b e = e
 
--- two of them at most are sinks
-pub kind_sinks : (c : Cell) (k : Kind) → IsUsable c → HasKind c k → length (filter (is_sink_of (Some c)) (pin_names c)) ≤ 2
-kind_sinks c k usable told =
-    let ins = kind_inputs c k usable told in
+-- and its sinks are three less than its pins at most
+pub sinks_and_three : (c : Cell) → IsFormed c → IsUsable c → length (filter (is_sink_of (Some c)) (pin_names c)) + 3 ≤ length (pin_names c)
+sinks_and_three c formed usable =
+    let pins = inputs_and_three c formed usable in
     let sorted = sorted_supply vss (with_supply vdd (pin_ports c)) (sorted_supply vdd (pin_ports c) (sorted_of (pin_ports c) usable.order)) in
     let differ = different_filter (is_sink_of (Some c)) (pin_names c) (sorted_different (all_ports c) sorted) in
     let few = few_members (filter (is_sink_of (Some c)) (pin_names c)) (cell_inputs c) differ (λ name i. input name (in_filter (is_sink_of (Some c)) (pin_names c) name i).1) in
-    omega (arith, ins, few)
+    omega (arith, pins, few)
   where
     input : (name : Name) → is_sink_pin c name ≡ true → In name (cell_inputs c)
     input name e =

@@ -13,6 +13,7 @@ use Rattle.net_right.specs.View.{IsSeenAs}
 use Rattle.net_right.specs.Right.{HasPinsOfCells}
 use Rattle.net_right.specs.Writable.{CanBeNamed, HasShortNames}
 use Rattle.net_meaning.specs.Order.{IsInNetlistOrder, IsLean}
+use Rattle.net_tight.specs.Tight.{IsTight}
 use Rattle.route_draw.specs.Law.{HasFewPins}
 use Rattle.vbe_writable.specs.Declared.{CanBeDeclared}
 use Rattle.tool_drive.specs.declared.size.TheConstants.{MOST_SIZE}
@@ -21,13 +22,14 @@ use Rattle.loon_drive.specs.Driven.{most_sinks}
 use Rattle.flow_netlist.specs.Netlist.{IsDrivenNetlist, IsDrivenAs}
 
 -- As a netlist that layouts give: its instances stand in order; its gates are no more than the machine's size and two; few input pins read
--- each class but the clock's and the supplies'; it has no buffer at all where it would do without them; and no exchange of one cell
--- makes its longest path shorter.
+-- each class but the clock's and the supplies'; it has no buffer at all where it would do without them, and where it has none, no usable
+-- cell of the library could stand for two of its gates; and no exchange of one cell makes its longest path shorter.
 pub record IsGoodNetlist (l : Library) (m : Machine) (fanout : ℕ) (y : Seen) (delay : ℕ) : Type 0 where
   pub order : (buffers : ℕ) × IsInNetlistOrder y l m buffers
   pub lean : IsLean y m
   pub inputs : HasFewInputs y l m (most_sinks fanout)
   pub buffers : FitsWithoutBuffers y l (most_sinks fanout) → HasNoBuffer y
+  pub tight : HasNoBuffer y → IsTight y l
   pub driven : IsDrivenAs y l m delay
 
 abbrev pub DrivenIsGood : Type 0

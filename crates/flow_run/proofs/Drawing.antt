@@ -49,6 +49,8 @@ use Rattle.flow_run.specs.RightLayout.{IsRightLayout}
 use Rattle.flow_run.specs.Mapped.{IsMappedFor}
 use Rattle.flow_run.specs.Drawn.{DoesAsOrigin, MayBeDrawn, IsLengthOf}
 use Rattle.flow_run.specs.Flow.{AreRead}
+use Rattle.net_tight.specs.Tight.{IsTight}
+use Rattle.loon_fanout.specs.Nets.{HasNoBuffer}
 use Rattle.loon_drive.specs.Driven.{most_sinks}
 use Rattle.flow_netlist.specs.Laws.{DrivenIsDrawable, DrivenIsGood}
 use Rattle.flow_run.proofs.Alike.{well_alike, agrees_alike, order_alike, inputs_alike, driven_alike}
@@ -141,6 +143,7 @@ pub record IsRightFor (l : Library) (o : Origin) (m : Machine) (fanout : ℕ) (n
   pub many_buffers : ℕ
   pub order : IsInNetlistOrder k l m many_buffers
   pub lean : IsLeanBy k l m fanout
+  pub tight : HasNoBuffer k → IsTight k l
   pub driven : IsDrivenAs k l m delay
 
 pub right_for : RightIsWellFormed → AlikeRun → AlikeBothWays → DrivenIsGood → (tracks : Bool) (l : Library) (o : Origin) (m : Machine) (fanout : ℕ) (n : Netlist)
@@ -163,6 +166,7 @@ right_for well runs back good tracks l o m fanout n delay passed h =
       many_buffers = order.0;
       order = order_alike k l m h.o a order.0 order.1;
       lean = lean_by k l m h.o fanout h.optimised is_good.lean (inputs_alike k l m h.o a (most_sinks fanout) is_good.inputs) is_good.buffers;
+      tight = is_good.tight;
       driven = driven_alike k l m h.o a delay is_good.driven;
     }
 
@@ -203,6 +207,7 @@ right_layout well extracted written again runs back good l o m fanout n delay f 
       many_buffers = r.many_buffers;
       in_order = record { tracks = refl; one_row = refl; order = r.order };
       lean = r.lean;
+      tight = r.tight;
       delay = delay;
       driven = r.driven;
       nodes = nodes;

@@ -110,6 +110,7 @@ row_layout well extracted written again runs back good in_rows l o m fanout n de
         };
       };
       lean = r.lean;
+      tight = r.tight;
       delay = delay;
       driven = r.driven;
       nodes = nodes;
@@ -158,6 +159,7 @@ stuck_layout well written again runs back good in_rows keeps marked_keeps tells 
       many_buffers = r.many_buffers;
       order = r.order;
       lean = r.lean;
+      tight = r.tight;
       delay = delay;
       driven = r.driven;
       instances = instances;

@@ -82,6 +82,7 @@ module _ (l : Library) (k m : Machine) (a : IsAlike k m) (size : machine_size m 
           inputs = inputs_alike n l k m a (most_sinks fanout) lean.inputs;
           buffers = lean.buffers;
         };
+        tight = r.tight;
         delay = r.delay;
         driven = driven_alike n l k m a r.delay r.driven;
         nodes = r.nodes;

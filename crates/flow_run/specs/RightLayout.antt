@@ -10,6 +10,8 @@ use Rattle.net_meaning.specs.Well.{IsWell}
 use Rattle.net_meaning.specs.Behaviour.{Contents, NetTrace, net_outs}
 use Rattle.net_meaning.specs.Agreement.{Agrees, IsMatched}
 use Rattle.net_meaning.specs.Breaches.{Breaches}
+use Rattle.net_tight.specs.Tight.{IsTight}
+use Rattle.loon_fanout.specs.Nets.{HasNoBuffer}
 use Rattle.ocp_rows.specs.Placement.{Placement, IsPlaced}
 use Rattle.machine_roots.specs.Roots.{IsGreatestDcount}
 use Rattle.flow_run.specs.Origin.{Origin}
@@ -25,8 +27,9 @@ use Rattle.flow_run.specs.Report.{report_of}
 -- symbolic rule. Of a state machine it does what this does, from the codes of its states and behind vectors that reset. Its ports,
 -- instances, supplies and box are those of a placement: for tracks one row in the order of the netlist; without them rows over which
 -- the nets are routed, one after another and each by least paths. It has few gates, few pins read each net,
--- it has no buffer at all where it would do without them, and no exchange of one instance's cell makes its longest path shorter. The
--- report is that of machine, netlist and placement, and has the most nodes of a diagram of the machine's roots and the time of that path.
+-- it has no buffer at all where it would do without them; where no buffer is there, no cell of the library could stand for two of its
+-- gates; and no exchange of one instance's cell makes its longest path shorter. The report is that of machine, netlist and placement, and
+-- has the most nodes of a diagram of the machine's roots and the time of that path.
 pub record IsRightLayout (bytes : List ℕ) (o : Origin) (m : Machine) (l : Library) (fanout : ℕ) (route : Route) (report : List ℕ) : Type 0 where
   pub figure : Figure
   pub netlist : AbstractNetlist
@@ -42,6 +45,7 @@ pub record IsRightLayout (bytes : List ℕ) (o : Origin) (m : Machine) (l : Libr
   pub many_buffers : ℕ
   pub in_order : IsLaidBy route figure netlist l m placement many_buffers
   pub lean : IsLeanBy netlist l m fanout
+  pub tight : HasNoBuffer netlist → IsTight netlist l
   pub delay : ℕ
   pub driven : IsDrivenAs netlist l m delay
   pub nodes : ℕ

@@ -12,6 +12,8 @@ use Rattle.net_meaning.specs.Well.{IsWell}
 use Rattle.net_meaning.specs.Agreement.{Agrees}
 use Rattle.net_meaning.specs.Order.{IsInNetlistOrder}
 use Rattle.net_meaning.specs.Breaches.{Breaches}
+use Rattle.net_tight.specs.Tight.{IsTight}
+use Rattle.loon_fanout.specs.Nets.{HasNoBuffer}
 use Rattle.net_drawing.specs.Shown.{KeepsNetlist}
 use Rattle.ocp_rows.specs.Placement.{Placement, IsPlaced}
 use Rattle.ocp_place.specs.Nets.{net_number}
@@ -28,8 +30,8 @@ use Rattle.flow_run.specs.Route.{InRows}
 use Rattle.flow_run.specs.GridLayout.{IsOverRows}
 
 -- The bytes are the ap file of a figure that has the machine's name. By the marks at the points of its terminals, and by the names of its
--- supplies' pins, it tells a netlist of the library's cells that is right for the machine as that of a right layout is. The netlist is
--- placed in rows as it is asked for, and its nets were routed by half perimeter, then by number, each by least paths beside those before it, up to
+-- supplies' pins, it tells a netlist of the library's cells that is right for the machine, lean, tight and driven as that of a right
+-- layout is. The netlist is placed in rows as it is asked for, and its nets were routed by half perimeter, then by number, each by least paths beside those before it, up to
 -- this net, from whose tree no free path leads to this terminal; the later nets have no wire. The lines are those of the placement and of
 -- these routes, and then the marks: no two classes are joined, and no symbolic rule is broken.
 pub record IsStuckLayout (bytes : List ℕ) (o : Origin) (m : Machine) (l : Library) (fanout : ℕ) (a : InRows) (net : ℕ) (terminal : Terminal) : Type 0 where
@@ -45,6 +47,7 @@ pub record IsStuckLayout (bytes : List ℕ) (o : Origin) (m : Machine) (l : Libr
   pub many_buffers : ℕ
   pub order : IsInNetlistOrder netlist l m many_buffers
   pub lean : IsLeanBy netlist l m fanout
+  pub tight : HasNoBuffer netlist → IsTight netlist l
   pub delay : ℕ
   pub driven : IsDrivenAs netlist l m delay
   pub instances : List Instance

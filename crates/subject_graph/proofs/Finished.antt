@@ -145,7 +145,7 @@ module _ (m : Machine) (t : Table) (plain loads : List ℕ) (r : IsRooted m t pl
     graph = record { earlier = earlier; shown = shown; loaded = loaded };
     apart = apart;
     small = small;
-    shared = record { plain = plain; shared = kinds t; once = once; nodes = refl; roots = refl };
+    shared = record { plain = plain; shared = kinds t; once = once; drawn = r.drawn; nodes = refl; roots = refl };
     roots = roots;
   }
 

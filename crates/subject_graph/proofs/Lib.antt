@@ -1,3 +1,4 @@
+pub mod Drawing
 pub mod Apart
 pub mod Finished
 pub mod Rooted

@@ -22,6 +22,9 @@ use Rattle.subject_table.specs.Roots.{TakesOutputs, TakesLoads}
 use Rattle.subject_table.proofs.Tables.{kept}
 use Rattle.subject_table.proofs.Operators.{same_numbers}
 use Rattle.subject_table.proofs.Roots.{table_is_graph}
+use Rattle.subject_table.specs.Rules.{Load}
+use Rattle.subject_table.specs.Makes.{Makes}
+use Rattle.subject_graph.proofs.Drawing.{drawn}
 use Rattle.subject_graph.specs.Stages.{IsSolved, IsNumberOf, load_value, load_weight, Loads, IsRooted}
 
 -- sizes, from the first on
@@ -60,7 +63,8 @@ zip_back R (x ∷ xs) (z ∷ ys) h y here = (x, h.0)
 zip_back R (x ∷ xs) (z ∷ ys) h y (there p) = zip_back R xs ys h.1 y p
 
 module _ (m : Machine) (t u : Table) (numbers plain loads : List ℕ) (checked : IsChecked m) (solved : IsSolved m t numbers)
-    (takes : AllZip (IsNumberOf m.vars numbers) (outputs m) plain) (taken : Loads t u numbers (t.held - length m.registers) m.registers loads) where
+    (takes : AllZip (IsNumberOf m.vars numbers) (outputs m) plain) (taken : Loads t u numbers (t.held - length m.registers) m.registers loads)
+    (made : Makes t u (Load m.registers numbers (t.held - length m.registers) []) loads) where
   held : u.held ≡ held_count m
   held = taken.held ∙ solved.held
 
@@ -131,14 +135,18 @@ module _ (m : Machine) (t u : Table) (numbers plain loads : List ℕ) (checked :
     known_outputs = below_plain;
     known_loads = taken.known;
     graph = table_is_graph m u numbers plain loads checked held taken.sound values takes_outputs takes_loads;
+    drawn =
+        drawn m solved.start t u numbers plain loads solved.empty solved.starts solved.made (subst (λ (k : ℕ). Makes t u (Load m.registers numbers k []) loads) place made)
+        takes_outputs;
   }
 
 -- the same of what the stages were lent
 pub rooted_from : (m : Machine) (t u : Table) (numbers first last plain loads : List ℕ) (names : List Name) (ports : List Port) (registers : List RegisterParts) → IsChecked m → IsSolved m t numbers
     → first ≡ numbers → last ≡ numbers → names ≡ m.vars → ports ≡ m.ports → map register_view registers ≡ m.registers
     → AllZip (IsNumberOf names first) (names_of (filter (λ p. not (is_input p.dir)) ports)) plain
-    → Loads t u last (t.held - length registers) (map register_view registers) loads → IsRooted m u plain loads
-rooted_from m t u numbers first last plain loads names ports registers checked solved is_first is_last is_names is_ports is_registers takes taken =
+    → Loads t u last (t.held - length registers) (map register_view registers) loads
+    → Makes t u (Load (map register_view registers) last (t.held - length registers) []) loads → IsRooted m u plain loads
+rooted_from m t u numbers first last plain loads names ports registers checked solved is_first is_last is_names is_ports is_registers takes taken made =
     let as_lent : AllZip (IsNumberOf m.vars numbers) (outputs m) plain =
     subst (λ (ns : List Name). AllZip (IsNumberOf ns numbers) (outputs m) plain) is_names
     (subst (λ (xs : List ℕ). AllZip (IsNumberOf names xs) (outputs m) plain) is_first
@@ -148,4 +156,8 @@ rooted_from m t u numbers first last plain loads names ports registers checked s
     subst (λ (rs : List Register). Loads t u numbers (t.held - length m.registers) rs loads) is_registers
     (subst (λ (k : ℕ). Loads t u numbers (t.held - k) (map register_view registers) loads) count
     (subst (λ (xs : List ℕ). Loads t u xs (t.held - length registers) (map register_view registers) loads) is_last taken)) in
-    rooted m t u numbers plain loads checked solved as_lent loads_lent
+    let made_lent : Makes t u (Load m.registers numbers (t.held - length m.registers) []) loads =
+    subst (λ (rs : List Register). Makes t u (Load rs numbers (t.held - length m.registers) []) loads) is_registers
+    (subst (λ (k : ℕ). Makes t u (Load (map register_view registers) numbers (t.held - k) []) loads) count
+    (subst (λ (xs : List ℕ). Makes t u (Load (map register_view registers) xs (t.held - length registers) []) loads) is_last made)) in
+    rooted m t u numbers plain loads checked solved as_lent loads_lent made_lent

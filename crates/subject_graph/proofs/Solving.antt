@@ -22,6 +22,8 @@ use Rattle.graph_theory.proofs.Shown.{In-split}
 use Rattle.subject_table.specs.declared.table.Table.{Table}
 use Rattle.subject_table.specs.View.{kinds}
 use Rattle.subject_table.specs.Grows.{HasRoom, value, weight, Solves}
+use Rattle.subject_table.specs.Rules.{Solve}
+use Rattle.subject_table.specs.Makes.{Makes}
 use Rattle.subject_graph.specs.Subject.{IsNumberable}
 use Rattle.subject_graph.specs.Stages.{IsSolved, IsNumberOf, LoadsOver, EachLoadsOver, Loads, load_size, load_weight}
 use Rattle.subject_graph.proofs.Loading.{number_more}
@@ -90,8 +92,9 @@ reads_below m es n numbers checked is_es is_n is_numbers =
     subst (λ (xs : List Equation). EachReadsBelow (length numbers) xs) (sym is_es) (subst P place checked.ordered.below)
 
 pub solved_from : (m : Machine) (t u : Table) (start numbers : List ℕ) (es : List EquationParts) (n : ℕ) → n ≡ held_count m → t.held ≡ n → kinds t ≡ [] → start ≡ count_to n
-    → map equation_view es ≡ m.equations → Solves t u start numbers (map equation_view es) → IsSolved m u numbers
-solved_from m t u start numbers es n is_n held none is_start is_es s = record {
+    → map equation_view es ≡ m.equations → Solves t u start numbers (map equation_view es) → Makes t u (Solve (map equation_view es) start) numbers
+    → IsSolved m u numbers
+solved_from m t u start numbers es n is_n held none is_start is_es s made = record {
   held = s.held ∙ held ∙ is_n;
   sound = s.sound;
   cost =
@@ -105,6 +108,12 @@ solved_from m t u start numbers es n is_n held none is_start is_es s = record {
       let first : map (value t w) start ≡ w =
       ap (λ (xs : List Node). map (bit (grown w xs)) start) none ∙ ap (map (bit w)) is_start ∙ count_bits n w (size_t ∙ held) in
       s.same w size_t ∙ ap (λ (x : List Bool). built x (map equation_view es)) first ∙ ap (built w) is_es;
+  start = t;
+  empty = none;
+  starts = held ∙ is_n;
+  made =
+      subst (λ (xs : List ℕ). Makes t u (Solve m.equations xs) numbers) (is_start ∙ ap count_to is_n)
+      (subst (λ (ys : List Equation). Makes t u (Solve ys start) numbers) is_es made);
 }
 
 length-built : (w : List Bool) (es : List Equation) → length (built w es) ≡ length w + length es

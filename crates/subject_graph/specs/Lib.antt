@@ -1,3 +1,4 @@
+pub mod Drawn
 pub mod Subject
 pub mod Code
 pub mod Stages

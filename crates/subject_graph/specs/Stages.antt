@@ -11,15 +11,23 @@ use Rattle.subject_table.specs.declared.table.Node.{Node as Kind}
 use Rattle.subject_table.specs.declared.table.Table.{Table}
 use Rattle.subject_table.specs.View.{node_view, kinds, end_of}
 use Rattle.subject_table.specs.Grows.{IsSound, AreSorted, AreBelow, value, weight}
+use Rattle.subject_table.specs.Rules.{Solve}
+use Rattle.subject_table.specs.Makes.{Makes}
+use Rattle.cell_model.specs.Access.{count_to}
+use Rattle.subject_graph.specs.Drawn.{IsDrawn}
 use Rattle.subject_graph.specs.Subject.{roots_apart, inverters_apart}
 
--- each of a machine's names has a number with its value
+-- each of a machine's names has a number with its value, which is made by the table from no nodes at all
 pub record IsSolved (m : Machine) (t : Table) (numbers : List ℕ) : Type 0 where
   pub held : t.held ≡ held_count m
   pub sound : IsSound t
   pub cost : count_by is_logic (kinds t) ≤ weight m.equations
   pub known : AreBelow (end_of t) numbers
   pub values : (w : List Bool) → length w ≡ t.held → map (value t w) numbers ≡ built w m.equations
+  pub start : Table
+  pub empty : kinds start ≡ []
+  pub starts : start.held ≡ held_count m
+  pub made : Makes start t (Solve m.equations (count_to (held_count m))) numbers
 
 -- a name's number: both stand at one place
 abbrev pub IsNumberOf : List Name → List ℕ → Name → ℕ → Type 0
@@ -56,7 +64,7 @@ pub record Loads (t u : Table) (numbers : List ℕ) (first : ℕ) (registers : L
   pub each : (k : ℕ) (r : Register) (a : ℕ) → IsNumber registers k r → IsNumber loads k a
       → (w : List Bool) → length w ≡ t.held → value u w a ≡ load_value r (map (value t w) numbers) (value t w (first + k))
 
--- the table is a graph of the machine, with these numbers of outputs and of what registers load
+-- the table is a graph of the machine, with these numbers of outputs and of what registers load, and has the nodes that they become
 pub record IsRooted (m : Machine) (t : Table) (plain loads : List ℕ) : Type 0 where
   pub held : t.held ≡ held_count m
   pub sorted : AreSorted (kinds t)
@@ -66,6 +74,7 @@ pub record IsRooted (m : Machine) (t : Table) (plain loads : List ℕ) : Type 0 
   pub known_outputs : AreBelow (end_of t) plain
   pub known_loads : AreBelow (end_of t) loads
   pub graph : IsGraphOf m (record { nodes = kinds t; outputs = plain; loads = loads })
+  pub drawn : IsDrawn m (kinds t) plain loads
 
 -- behind the nodes that were there stand the further inverters of outputs, and these are the roots
 pub record ShowsBehind (old new : List Kind) (first held : ℕ) (plain roots : List ℕ) : Type 0 where

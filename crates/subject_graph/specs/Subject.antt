@@ -1,4 +1,4 @@
--- The subject graph of a machine: its nodes are shared, and its outputs show different nodes.
+-- The subject graph of a machine: its nodes are those of the table and shared, and its outputs show different nodes.
 use Rattle.std.specs.Prelude.{◌≡◌, ℕ, ◌+◌, ◌^◌, ◌<◌, Bool, ◌||◌, nat_lt, List, [], ◌∷◌, ◌++◌, length, if◌then◌else◌}
 use Rattle.bool_expr.specs.Support.{among}
 use Rattle.machine_core.specs.Machine.{Machine, inputs}
@@ -6,6 +6,7 @@ use Rattle.machine_core.specs.Size.{machine_size}
 use Rattle.graph_theory.specs.Graph.{Node, inv, Graph, held_count, IsGraphOf, IsApart, IsSmall}
 use Rattle.subject_table.specs.Grows.{AreBelow}
 use Rattle.subject_table.specs.Shared.{AreShared}
+use Rattle.subject_graph.specs.Drawn.{IsDrawn}
 
 -- inputs, registers and nodes of logic, with the two constants, are fewer than 2^32
 abbrev pub IsNumberable : Machine → Type 0
@@ -29,12 +30,14 @@ inverters_apart first n before (a ∷ plain) =
     if is_taken first before a then inv a ∷ inv n ∷ inverters_apart first (n + 2) (a ∷ before) plain
     else inverters_apart first n (a ∷ before) plain
 
--- No two nodes are the same, but for the two further inverters of an output whose node is taken.
+-- The nodes are those that the machine's equations and registers become by the table, and no two are the same, but for the two
+-- further inverters of an output whose node is taken.
 pub record IsSharedBehind (m : Machine) (g : Graph) : Type 0 where
   -- the nodes that outputs have, among the shared ones
   pub plain : List ℕ
   pub shared : List Node
   pub once : AreShared shared
+  pub drawn : IsDrawn m shared plain g.loads
   pub nodes : g.nodes ≡ shared ++ inverters_apart (length (inputs m)) (held_count m + length shared) [] plain
   pub roots : g.outputs ≡ roots_apart (length (inputs m)) (held_count m + length shared) [] plain
 
@@ -44,7 +47,7 @@ pub record HasRoots (m : Machine) (g : Graph) : Type 0 where
   pub loaded : AreBelow (held_count m + length g.nodes) g.loads
   pub each : length g.loads ≡ length m.registers
 
--- the graph has the machine's functions, its outputs show different nodes, it is small, and its nodes are shared
+-- the graph has the machine's functions, its outputs show different nodes, it is small, and its nodes are those of the table
 pub record IsSubjectGraph (m : Machine) (g : Graph) : Type 0 where
   pub graph : IsGraphOf m g
   pub apart : IsApart m g

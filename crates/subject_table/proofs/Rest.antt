@@ -15,6 +15,10 @@ use Rattle.subject_table.specs.View.{kinds, end_of}
 use Rattle.subject_table.specs.Grows.{IsSound, AreBelow, value, Adds, weight}
 use Rattle.subject_table.proofs.Operators.{still, same_numbers, below_grows}
 use Rattle.std.proofs.Common.{inl, inr}
+use Rattle.machine_core.specs.Machine.{Equation as AbstractEquation}
+use Rattle.subject_table.specs.Rules.{Then, Becomes, Solve}
+use Rattle.subject_table.specs.Makes.{Makes, Leads}
+use Rattle.subject_table.proofs.Making.{goes_on as leads_on, arrived}
 
 -- what is left of the equations from number i on gives the whole
 pub record Goes (t u : Table) (start numbers : List ℕ) (equations : List Equation) (i : ℕ) : Type 0 where
@@ -65,3 +69,20 @@ goes_on t u v start numbers equations i r e h is c added =
           map-append (value v w) numbers (r ∷ []) ∙ ap (λ (xs : List Bool). xs ++ value v w r ∷ []) kept ∙ ap (λ (b : Bool). map (value u w) numbers ++ b ∷ []) (added.gives w size_u) in
           ap (λ (x : List Bool). built x (map equation_view (drop (i + 1) equations))) all ∙ sym (ap (built (map (value u w) numbers)) (rest-cons equations i e h is)) ∙ c.same w size;
     }
+
+-- the rule of what is left
+pub solves_on : (t u v : Table) (start numbers : List ℕ) (equations : List Equation) (i r : ℕ) (e : Equation) → i < length equations → e ≡ slice_index_or equations i e
+    → Leads t u (Solve (map equation_view equations) start) (Solve (map equation_view (drop i equations)) numbers) → Makes u v (Becomes (view e.expr) numbers) r
+    → Leads t v (Solve (map equation_view equations) start) (Solve (map equation_view (drop (i + 1) equations)) (numbers ++ r ∷ []))
+solves_on t u v start numbers equations i r e h is k m =
+    let w = Solve (map equation_view equations) start in
+    let rest = map equation_view (drop (i + 1) equations) in
+    let first : Leads t u w (Then (Becomes (view e.expr) numbers) (λ x. Solve rest (numbers ++ x ∷ []))) =
+    subst (λ (xs : List AbstractEquation). Leads t u w (Solve xs numbers)) (rest-cons equations i e h is) k in
+    leads_on t u v w (Becomes (view e.expr) numbers) (λ x. Solve rest (numbers ++ x ∷ [])) r first m
+
+pub solves_end : (t u : Table) (start numbers : List ℕ) (equations : List Equation) (i : ℕ) → drop i equations ≡ []
+    → Leads t u (Solve (map equation_view equations) start) (Solve (map equation_view (drop i equations)) numbers) → Makes t u (Solve (map equation_view equations) start) numbers
+solves_end t u start numbers equations i none k =
+    let w = Solve (map equation_view equations) start in
+    arrived t u w numbers (subst (λ (xs : List Equation). Leads t u w (Solve (map equation_view xs) numbers)) none k)

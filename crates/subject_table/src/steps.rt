@@ -3,6 +3,7 @@ ghost use Rattle.std.specs.Prelude.{◌<◌, IfOk};
 ghost use Rattle.subject_table.specs.View.{end_of};
 ghost use Rattle.subject_table.specs.Grows.{IsSound, HasRoom, Adds};
 ghost use Rattle.subject_table.specs.Steps.{step_value, step_size, steps_value, steps_size, IsStepBelow, AreStepsBelow};
+ghost use Rattle.subject_table.specs.Makes.{Makes, IsStep, IsClimb};
 
 use crate::Table;
 use bool_expr::Gate;
@@ -23,7 +24,8 @@ impl Table {
         requires operand { a < end_of self.now }
         requires others { IsStepBelow (end_of self.now) step }
         requires room { HasRoom self.now (step_size step) }
-        ensures { IfOk result (λ r. Adds self.old self.new (step_size step) (λ v. step_value step v (v a)) r) }
+        ensures value { IfOk result (λ r. Adds self.old self.new (step_size step) (λ v. step_value step v (v a)) r) }
+        ensures made { IfOk result (λ r. Makes self.old self.new (IsStep step a) r) }
     {
         match step {
             Step::Not => self.inv(a),
@@ -38,7 +40,8 @@ impl Table {
         requires operand { last < end_of self.now }
         requires others { AreStepsBelow (end_of self.now) steps.items }
         requires room { HasRoom self.now (steps_size steps.items) }
-        ensures { IfOk result (λ r. Adds self.old self.new (steps_size steps.items) (λ v. steps_value steps.items v (v last)) r) }
+        ensures value { IfOk result (λ r. Adds self.old self.new (steps_size steps.items) (λ v. steps_value steps.items v (v last)) r) }
+        ensures made { IfOk result (λ r. Makes self.old self.new (IsClimb steps.items last) r) }
     {
         let mut steps = steps;
         let mut number = last;

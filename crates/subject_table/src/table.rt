@@ -1,8 +1,10 @@
 // The table of nodes.
 ghost use Rattle.std.specs.Prelude.{◌≡◌, [], ◌+◌, ◌-◌, ◌<◌, ◌≤◌, ◌⊎◌, IfOk, IfSome, IfNone, not, ◌&&◌};
-ghost use Rattle.graph_theory.specs.Graph.{ReadsBelow};
+ghost use Rattle.graph_theory.specs.Graph.{fixed, ReadsBelow};
 ghost use Rattle.subject_table.specs.View.{node_view, kinds, end_of};
 ghost use Rattle.subject_table.specs.Grows.{IsSound, HasRoom, HasSortedSons, IsNode, IsKnown, Adds, node_value, logic_cost};
+ghost use Rattle.subject_table.specs.Rules.{OneNode, IsNoConstant, IsInverse, IsNand};
+ghost use Rattle.subject_table.specs.Makes.{Makes};
 
 use indexmap::IndexSet;
 use std::alloc::{AllocError, Global};
@@ -53,7 +55,8 @@ impl Table {
         requires below { ReadsBelow (end_of self.now) (node_view node) }
         requires sorted { HasSortedSons (node_view node) }
         requires room { HasRoom self.now (logic_cost (node_view node)) }
-        ensures { IfOk result (λ r. Adds self.old self.new (logic_cost (node_view node)) (node_value (node_view node)) r) }
+        ensures value { IfOk result (λ r. Adds self.old self.new (logic_cost (node_view node)) (node_value (node_view node)) r) }
+        ensures made { IfOk result (λ r. Makes self.old self.new (OneNode (node_view node)) r) }
     {
         let (place, _) = self.nodes.insert_full(node)?;
         Ok(self.held + place as u32)
@@ -64,23 +67,27 @@ impl Table {
         requires sound { IsSound self.now }
         requires below { a < end_of self.now }
         requires room { HasRoom self.now 1 }
-        ensures { IfOk result (λ r. Adds self.old self.new 1 (λ v. not (v a)) r) }
+        ensures value { IfOk result (λ r. Adds self.old self.new 1 (λ v. not (v a)) r) }
+        ensures made { IfOk result (λ r. Makes self.old self.new (IsInverse a) r) }
     {
         match self.node(a) {
             Some(Node::Inv(b)) => Ok(b),
             Some(Node::Fixed(bit)) => self.add(Node::Fixed(!bit)),
-            _ => self.add(Node::Inv(a)),
+            Some(Node::Nand(_, _)) => self.add(Node::Inv(a)),
+            None => self.add(Node::Inv(a)),
         }
     }
 
     /// The bit that a node always has, where it is a constant.
     fn known(&self, a: u32) -> Option<bool>
         requires sound { IsSound self.now }
-        ensures { IfSome result (λ b. IsKnown self.now a b) }
+        ensures known { IfSome result (λ b. IsKnown self.now a b) }
+        ensures some { IfSome result (λ b. IsNode self.now a (fixed b)) }
+        ensures none { IfNone result (a < end_of self.now → IsNoConstant self.now.held (kinds self.now) a) }
     {
         match self.node(a) {
             Some(Node::Fixed(bit)) => Some(bit),
-            _ => None,
+            Some(Node::Inv(_) | Node::Nand(_, _)) | None => None,
         }
     }
 
@@ -90,7 +97,8 @@ impl Table {
         requires first { a < end_of self.now }
         requires second { b < end_of self.now }
         requires room { HasRoom self.now 1 }
-        ensures { IfOk result (λ r. Adds self.old self.new 1 (λ v. not (v a && v b)) r) }
+        ensures value { IfOk result (λ r. Adds self.old self.new 1 (λ v. not (v a && v b)) r) }
+        ensures made { IfOk result (λ r. Makes self.old self.new (IsNand a b) r) }
     {
         if a == b {
             return self.inv(a);

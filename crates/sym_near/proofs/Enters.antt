@@ -1,5 +1,5 @@
 -- Entries of all shapes in their bands, sorted: each two related shapes share one.
-use Rattle.std.proofs.Common.{◌≡◌, ℕ, ◌+◌, ◌/◌, ◌^◌, ◌<◌, ◌≤◌, pos, ◌+ℤ◌, ◌≤ℤ◌, ◌<ℤ◌, min, inl, inr, ℤ, true, false, Bool, List, [], ◌∷◌, ◌++◌, length, get_or, refl, sym, ◌∙◌, ap, subst, arith, All}
+use Rattle.std.proofs.Common.{◌≡◌, ℕ, ◌+◌, ◌/◌, ◌^◌, ◌<◌, ◌≤◌, pos, ◌+ℤ◌, ◌≤ℤ◌, ◌<ℤ◌, min, inl, inr, ℤ, true, false, Bool, List, [], ◌∷◌, ◌++◌, length, get_or, refl, sym, ◌∙◌, ap, subst, arith}
 use Rattle.std.specs.List.{Contains}
 use Rattle.std.specs.List.Sorted.{IsPermutation}
 use Rattle.std.proofs.lemmas.Bool.{cases_lt}
@@ -11,11 +11,10 @@ use Rattle.sym_geom.specs.Rect.{Within, Near}
 use Rattle.sym_geom.specs.declared.rect.Rect.{Rect}
 use Rattle.sym_shapes.specs.Shape.{Shape}
 use Rattle.sym_near.specs.declared.bands.Cut.{Cut}
-use Rattle.sym_near.specs.declared.near.Relation.{Relation}
 use Rattle.sym_near.specs.declared.near.Relation.TheVariants as relation
 use Rattle.sym_near.specs.declared.sweep.Entry.{Entry}
-use Rattle.sym_near.specs.Related.{shape_at, Relates}
-use Rattle.sym_near.specs.Sweep.{entry, IsReach, laid, IsEntered, AddsOf, uncut, cut_for, EntersAll, PlacesWithin, InBand, Share, SharesAll, Ordered, AreSwept}
+use Rattle.sym_near.specs.Related.{shape_at}
+use Rattle.sym_near.specs.Sweep.{entry, IsReach, laid, IsEntered, AddsOf, uncut, cut_for, EntersAll, PlacesWithin, Share, SharesAll, Ordered, AreSwept}
 
 -- ---- entries that are put behind others, one for each band
 
@@ -183,11 +182,11 @@ module _ (all : List Shape) (cuts : List Cut) (gap : ℕ) (xs : List Entry) (eac
   shares_near i j h =
       share_near xs (cut_for cuts (shape_at all i)) gap (shape_at all i) (shape_at all j) i j (each i _ h.first) (alike i j h.second h.metal) h.metal h.is.1.1
 
-  shares_within : SharesAll all relation.Within xs
+  shares_within : SharesAll all relation.Held xs
   shares_within i j h =
-      share_within xs (cut_for cuts (shape_at all i)) gap (shape_at all i) (shape_at all j) i j (each i _ h.first) (alike i j h.second h.metal) h.metal h.is.1
+      share_within xs (cut_for cuts (shape_at all i)) gap (shape_at all i) (shape_at all j) i j (each i _ h.first) (alike i j h.second h.metal) h.metal h.is.1.0
 
-  pub swept : (ys : List Entry) → PlacesWithin all xs → IsPermutation xs ys → Ordered ys → AreSwept all (relation.Near gap) relation.Within ys
+  pub swept : (ys : List Entry) → PlacesWithin all xs → IsPermutation xs ys → Ordered ys → AreSwept all (relation.Near gap) relation.Held ys
   swept ys places w ordered = record {
     places = All-permutation (λ (e : Entry). e.place < length all) xs ys w places;
     ordered = ordered;

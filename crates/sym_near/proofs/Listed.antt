@@ -1,5 +1,5 @@
 -- All pairs that were seen, sorted, each once.
-use Rattle.std.proofs.Common.{◌≡◌, ℕ, ◌+◌, ◌<◌, Bool, true, ◌&&◌, eqb, List, [], length, get_or, inl, inr, refl, sym, subst, arith}
+use Rattle.std.proofs.Common.{◌≡◌, ℕ, ◌<◌, Bool, true, ◌&&◌, eqb, List, [], length, inl, inr, refl, sym, subst, arith}
 use Rattle.std.specs.List.{Contains, dedup}
 use Rattle.std.specs.List.Sorted.{IsPermutation, IsSorted, IsStrictlySortedBy}
 use Rattle.std.specs.Cmp.{IsTotalOrder, IsEquivalence}
@@ -14,7 +14,7 @@ use Rattle.sym_shapes.specs.Shape.{Shape}
 use Rattle.sym_near.specs.declared.near.Relation.{Relation}
 use Rattle.sym_near.specs.declared.near.Pair.{Pair}
 use Rattle.sym_near.specs.declared.sweep.Entry.{Entry}
-use Rattle.sym_near.specs.Related.{Relates, pair_cmp, Gains, AreRelated}
+use Rattle.sym_near.specs.Related.{pair_cmp, Gains, AreRelated}
 use Rattle.sym_near.specs.Sweep.{Ordered, SeesRuns, SharesAll}
 use Rattle.sym_near.proofs.Sweeps.{sees_all}
 

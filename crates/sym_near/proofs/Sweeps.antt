@@ -43,7 +43,7 @@ in_run entries p q ordered before within b k after upto = elim (cases_lt k q) [
 
 differ : (all : List Shape) (r : Relation) (i j : ℕ) → Relates all r i j → i ≡ j → ⊥
 differ all (relation.Near gap) i j h e = let below = h.is.0 in omega (arith, below, e)
-differ all relation.Within i j h e = h.is.0 e
+differ all relation.Held i j h e = h.is.0 e
 
 module _ (all : List Shape) (r : Relation) where
   pub gains_none : (ps : List Pair) → Gains all r ps ps

@@ -1,4 +1,4 @@
--- Pairs of shapes by their places: which are near, and which lie within which.
+-- Pairs of shapes by their places: which are near, and which hold which.
 use Rattle.std.specs.Prelude.{◌≡◌, ◌≢◌, ◌⊎◌, ℕ, ◌<◌, pos, List, length, slice_index_or, Contains, None}
 use Rattle.std.specs.Ordering.{nat_cmp, ordering_then}
 use Rattle.std.specs.declared.cmp.Ordering.{Ordering}
@@ -21,10 +21,21 @@ shape_at all k = slice_index_or all k nowhere
 abbrev pub AreClose : ℕ → Shape → Shape → Type 0
 AreClose gap a b = (Meet a.rect b.rect → ⊥) × Near gap a.rect b.rect
 
+-- the first is drawn, and the second is a pin of an instance
+pub record IsOverPin (a b : Shape) : Type 0 where
+  pub drawn : a.owner ≡ None
+  pub owned : b.owner ≡ None → ⊥
+  pub named : b.name ≡ None → ⊥
+
+-- The first lies within the second, which is larger. One that coincides with it holds it only where that is a pin over which it is
+-- drawn.
+abbrev pub IsHeld : Shape → Shape → Type 0
+IsHeld a b = Within a.rect b.rect × ((Within b.rect a.rect → ⊥) ⊎ IsOverPin a b)
+
 -- of two shapes of one metal, at different places: what the first is to the second
 abbrev pub IsTo : Relation → ℕ → ℕ → Shape → Shape → Type 0
 IsTo (relation.Near gap) i j a b = (i < j) × AreClose gap a b
-IsTo relation.Within i j a b = (i ≢ j) × Within a.rect b.rect
+IsTo relation.Held i j a b = (i ≢ j) × IsHeld a b
 
 pub record Relates (all : List Shape) (r : Relation) (i j : ℕ) : Type 0 where
   pub first : i < length all

@@ -174,7 +174,7 @@ fn enter_all(
 /// The entries of all shapes in order. Takes memory for a few entries a shape.
 pub fn entries(alloc: Global, shapes: &[Shape], gap: u32) -> Result<Vec<Entry>, AllocError>
     requires { length shapes.now < 2 ^ 32 }
-    ensures { IfOk result (λ entries. AreSwept shapes.now (relation.Near gap) relation.Within entries.items) }
+    ensures { IfOk result (λ entries. AreSwept shapes.now (relation.Near gap) relation.Held entries.items) }
 {
     let cuts = cuts(shapes, gap);
     let mut entries = enter_all(alloc, shapes, &cuts, gap)?;

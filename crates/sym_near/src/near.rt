@@ -1,7 +1,7 @@
-// Pairs of shapes that are near, or of which one lies within the other.
+// Pairs of shapes that are near, or of which one holds the other.
 ghost use Rattle.std.specs.Prelude.{◌↔◌, ◌<◌, ◌+ℤ◌, ◌<ℤ◌, length, pos, IsTrue};
 ghost use Rattle.sym_geom.specs.Rect.{Near as IsNear, Within as LiesWithin};
-ghost use Rattle.sym_near.specs.Related.{Relates};
+ghost use Rattle.sym_near.specs.Related.{IsHeld, IsOverPin as LiesOverPin, Relates};
 
 use sym_geom::{Rect, touches};
 use sym_shapes::Shape;
@@ -18,8 +18,8 @@ pub struct Pair {
 pub enum Relation {
     /// It stands before it, they don't touch, and their gap is less than this.
     Near(u32),
-    /// It lies within it.
-    Within,
+    /// It lies within it, and that is larger; or they coincide, and it is drawn over a pin of an instance.
+    Held,
 }
 
 /// Whether a coordinate is below another, which a gap widens.
@@ -67,6 +67,34 @@ fn is_within(a: &Rect, b: &Rect) -> bool
     true
 }
 
+/// Whether the first shape is drawn, and the second is a pin of an instance.
+fn is_over_pin(a: &Shape, b: &Shape) -> bool
+    ensures { IsTrue result ↔ LiesOverPin a.now b.now }
+{
+    if a.owner().is_some() {
+        return false;
+    }
+    if b.owner().is_none() {
+        return false;
+    }
+    b.name().is_some()
+}
+
+/// Whether the first shape lies within the second, which is larger, or is a pin over which the first is drawn.
+fn is_held(a: &Shape, b: &Shape) -> bool
+    ensures { IsTrue result ↔ IsHeld a.now b.now }
+{
+    let one = a.rect();
+    let other = b.rect();
+    if !is_within(&one, &other) {
+        return false;
+    }
+    if !is_within(&other, &one) {
+        return true;
+    }
+    is_over_pin(a, b)
+}
+
 /// Whether the shape at the first place is so related to that at the second.
 pub fn relates(shapes: &[Shape], relation: Relation, first: u32, second: u32) -> bool
     requires first { first < length shapes.now }
@@ -82,6 +110,6 @@ pub fn relates(shapes: &[Shape], relation: Relation, first: u32, second: u32) ->
     let b = other.rect();
     match relation {
         Relation::Near(gap) => first < second && !touches(a, b) && is_near(gap, &a, &b),
-        Relation::Within => first != second && is_within(&a, &b),
+        Relation::Held => first != second && is_held(one, other),
     }
 }

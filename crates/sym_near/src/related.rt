@@ -1,5 +1,5 @@
 // All pairs of shapes that are related.
-ghost use Rattle.std.specs.Prelude.{◌<◌, ◌^◌, length, IfOk};
+ghost use Rattle.std.specs.Prelude.{◌≡◌, [], ◌<◌, ◌^◌, length, IfOk};
 ghost use Rattle.sym_near.specs.declared.near.Relation.TheVariants as relation;
 ghost use Rattle.sym_near.specs.Related.{AreRelated};
 ghost use Rattle.sym_near.specs.Sweep.{PlacesWithin, Ordered, SharesAll};
@@ -15,8 +15,8 @@ use sym_shapes::Shape;
 pub struct NearPairs {
     /// Those that don't touch and whose gap is less than one that was given, the earlier shape first.
     pub near: Vec<Pair>,
-    /// Those of which the first lies within the second.
-    pub within: Vec<Pair>,
+    /// Those of which the second holds the first, where there are near ones.
+    pub held: Vec<Pair>,
 }
 
 /// All pairs of which the first is so related to the second, in their order, each once. Takes memory for them.
@@ -38,17 +38,21 @@ fn related(
     Ok(pairs)
 }
 
-/// The pairs of shapes of one metal that don't touch and whose gap is less than this, and those of which the first lies within the
-/// second. Takes memory for them and for a few entries a shape; time for these, times the logarithm of their number, and for
-/// the pairs of shapes that lie beside one another in one band of their metal.
+/// The pairs of shapes of one metal that don't touch and whose gap is less than this, and where there are such, those of which the
+/// second holds the first: the first lies within it, and it is larger, or a pin over which the first is drawn. So shapes that coincide
+/// don't hold one another. Takes memory for them and for a few entries a shape; time for these, times the logarithm of their number,
+/// and for the pairs of shapes that lie beside one another in one band of their metal.
 pub fn near_pairs(alloc: Global, shapes: &[Shape], gap: u32) -> Result<NearPairs, AllocError>
     requires { length shapes.now < 2 ^ 32 }
     ensures near { IfOk result (λ pairs. AreRelated shapes.now (relation.Near gap) pairs.near.items) }
-    ensures within { IfOk result (λ pairs. AreRelated shapes.now relation.Within pairs.within.items) }
+    ensures held { IfOk result (λ pairs. (pairs.near.items ≡ [] → ⊥) → AreRelated shapes.now relation.Held pairs.held.items) }
 {
     let entries = entries(alloc, shapes, gap)?;
-    Ok(NearPairs {
-        near: related(alloc, shapes, Relation::Near(gap), &entries)?,
-        within: related(alloc, shapes, Relation::Within, &entries)?,
-    })
+    let near = related(alloc, shapes, Relation::Near(gap), &entries)?;
+    if near.is_empty() {
+        let held = Vec::new(alloc);
+        return Ok(NearPairs { near, held });
+    }
+    let held = related(alloc, shapes, Relation::Held, &entries)?;
+    Ok(NearPairs { near, held })
 }

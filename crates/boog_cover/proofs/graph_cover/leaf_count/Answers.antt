@@ -1,6 +1,6 @@
-use Rattle.std.proofs.Common.{List, length, Option, Some, get_or, ap, sym, ◌∙◌, arith}
+use Rattle.std.proofs.Common.{length, Option, ap, ◌∙◌, arith}
 use Rattle.cell_match.specs.declared.gate.Gate.{Gate}
-use Rattle.boog_tight.specs.Cover.{leaves_of, gate_at}
+use Rattle.boog_tight.specs.Cover.{leaves_of}
 use Rattle.boog_cover.proofs.Counting.{pins_more, pins_whole, gate_there_at}
 use Rattle.boog_cover.proofs.graph_cover.leaf_count.Goals as goal
 use Rattle.boog_cover.proofs.graph_cover.leaf_count.Goals.{in-Some, in_default}

@@ -54,8 +54,8 @@ nand_cuts-requires g c =
     let are_too = c.requires.sound c.in-Nand.b second at_too in
     let there = are.there in
     let there_too = are_too.there in
-    let is = c.as_slice-in-Nand.ensures.value in
-    let is_too = c.as_slice-in-Nand-2.ensures.value in
+    let is = c.as_slice-first.ensures.value in
+    let is_too = c.as_slice-second.ensures.value in
     let many = ap (λ xs. length xs) is in
     let many_too = ap (λ xs. length xs) is_too in (
       cut_fits g.row.K c.requires.few,
@@ -80,8 +80,8 @@ nand_cuts-requires g c =
       ),
     )
 
-pub returns-in-Nand : goal.returns-in-Nand
-returns-in-Nand g c =
+pub returns-in_ok-pairs-in-Nand : goal.returns-in_ok-pairs-in-Nand
+returns-in_ok-pairs-in-Nand g c =
     let low : (c.in-Nand.a < c.args.number) × (c.in-Nand.b < c.args.number) =
     subst (λ (n : Node). ReadsBelow c.args.number n) (ap node_view c.in-Nand.is) c.requires.reads in
     let low_a = low.0 in
@@ -92,14 +92,14 @@ returns-in-Nand g c =
     let second = c.index-cuts-b.result.items in
     let at = list_at (λ v. v.items) c.args.cuts.now c.in-Nand.a c.index-cuts-a-in-Nand.result (omega arith) c.index-cuts-a-in-Nand.is in
     let at_too = list_at (λ v. v.items) c.args.cuts.now c.in-Nand.b c.index-cuts-b.result (omega arith) c.index-cuts-b.is in
-    let is = c.as_slice-in-Nand.ensures.value in
-    let is_too = c.as_slice-in-Nand-2.ensures.value in
-    if_ok (λ own. AreMade (FromTwo c.as_slice-in-Nand.result.now c.as_slice-in-Nand-2.result.now) c.args.number own.items)
-    (λ own. BeginsTwo c.as_slice-in-Nand.result.now c.as_slice-in-Nand-2.result.now own.items)
+    let is = c.as_slice-first.ensures.value in
+    let is_too = c.as_slice-second.ensures.value in
+    if_ok (λ own. AreMade (FromTwo c.as_slice-first.result.now c.as_slice-second.result.now) c.args.number own.items)
+    (λ own. BeginsTwo c.as_slice-first.result.now c.as_slice-second.result.now own.items)
     (λ own. AreNodeCuts (node_view c.args.node.now) c.args.number lists own.items) c.nand_cuts.result
     (λ own made begins.
     subst (λ (n : Node). AreNodeCuts n c.args.number lists own.items) (sym (ap node_view c.in-Nand.is))
     (nand_node c.args.number c.in-Nand.a c.in-Nand.b lists first second own.items low.0 low.1 at at_too (c.requires.sound c.in-Nand.a first at) (c.requires.sound c.in-Nand.b second at_too)
-    (subst (λ xs. AreMade (FromTwo first xs) c.args.number own.items) is_too (subst (λ xs. AreMade (FromTwo xs c.as_slice-in-Nand-2.result.now) c.args.number own.items) is made))
-    (subst (λ xs. BeginsTwo first xs own.items) is_too (subst (λ xs. BeginsTwo xs c.as_slice-in-Nand-2.result.now own.items) is begins))))
+    (subst (λ xs. AreMade (FromTwo first xs) c.args.number own.items) is_too (subst (λ xs. AreMade (FromTwo xs c.as_slice-second.result.now) c.args.number own.items) is made))
+    (subst (λ xs. BeginsTwo first xs own.items) is_too (subst (λ xs. BeginsTwo xs c.as_slice-second.result.now own.items) is begins))))
     c.nand_cuts.ensures.made c.nand_cuts.ensures.begins

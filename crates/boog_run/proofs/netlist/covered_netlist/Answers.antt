@@ -9,4 +9,4 @@ returns c =
     let m = c.in_ok-netlist.ensures in
     let condition =
     c.right_meets_condition.ensures c.in_ok-netlist.netlist c.args.library.now c.args.machine.now m.sound c.name.ensures.checked c.cells.ensures.checked m.right m.pins in
-    netlist_for c.args.library.now c.args.machine.now c.in_ok-netlist.netlist c.in_ok-graph.graph m.sound c.requires.covered m.right m.pins condition m.first m.order m.lean c.in_ok-graph.ensures m.each
+    netlist_for c.args.library.now c.args.machine.now c.in_ok-netlist.netlist c.in_ok-graph.graph c.in_ok-graph.ensures c.requires.covered condition m

@@ -14,7 +14,17 @@ returns-in-Ok-map-clause-right c =
     let m = c.in-Ok-map.ensures in
     let condition =
     c.right_meets_condition.ensures c.in-Ok-map.netlist c.args.library.now c.args.machine.now m.sound c.name.ensures.checked c.cells.ensures.checked m.right m.pins in
-    netlist_for c.args.library.now c.args.machine.now c.in-Ok-map.netlist c.in-Ok.graph m.sound m.covered m.right m.pins condition m.first m.order m.lean c.in-Ok.ensures m.each
+    netlist_for c.args.library.now c.args.machine.now c.in-Ok-map.netlist c.in-Ok.graph c.in-Ok.ensures m.covered condition
+    (record {
+      right = m.right;
+      pins = m.pins;
+      order = m.order;
+      most = m.most;
+      few = m.few;
+      lean = m.lean;
+      tight = m.tight;
+      sound = m.sound;
+    })
 
 pub returns-clause-refused : goal.returns-clause-refused
 returns-clause-refused c =

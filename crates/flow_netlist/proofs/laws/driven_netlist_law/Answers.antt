@@ -4,7 +4,7 @@ use Rattle.flow_netlist.proofs.laws.driven_netlist_law.Goals as goal
 pub returns-clause-good : goal.returns-clause-good
 returns-clause-good c = λ l m fanout k delay y passed checked d seen.
     is_good c.driven_law.ensures.grown c.driven_law.ensures.chosen c.driven_law.ensures.joins_nothing c.driven_law.ensures.inputs c.driven_law.ensures.needed
-    l m fanout k delay y passed checked d seen
+    c.limited_law.ensures c.tightness_is_kept.ensures l m fanout k delay y passed checked d seen
 
 pub returns-clause-drawable : goal.returns-clause-drawable
 returns-clause-drawable c = λ list files l m fanout k delay library checked declared small d.

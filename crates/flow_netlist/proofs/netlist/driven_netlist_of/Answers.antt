@@ -19,7 +19,7 @@ drive_netlist-requires-clause-timed c =
 
 pub drive_netlist-requires-clause-room : goal.drive_netlist-requires-clause-room
 drive_netlist-requires-clause-room c =
-    has_room c.args.library.now c.args.machine.now c.in_ok-netlist.netlist c.in_ok-netlist.ensures c.cells.ensures.checked c.requires.ports c.requires.small
+    has_room c.args.library.now c.args.machine.now c.in_ok-netlist.netlist c.in_ok-netlist.ensures c.requires.ports c.requires.small
 
 pub unreachable-requires : goal.unreachable-requires
 unreachable-requires c =

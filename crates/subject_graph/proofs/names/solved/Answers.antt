@@ -36,4 +36,4 @@ returns c =
     let vars = c.as_slice.ensures ∙ c.vars.ensures.value in
     let held = held_is m c.as_slice.result.now c.as_slice-equations.result.now c.equations.ensures.checked vars es in
     solved_from m c.new-table.result c.equations-2.new.self c.in_ok-numbers.numbers.items c.equations-2.new.numbers.items c.as_slice-equations.result.now
-    (length c.as_slice.result.now - length c.as_slice-equations.result.now) held.1 c.new-table.ensures.held c.new-table.ensures.nodes c.in_ok-numbers.ensures es c.in_ok-equations.ensures
+    (length c.as_slice.result.now - length c.as_slice-equations.result.now) held.1 c.new-table.ensures.held c.new-table.ensures.nodes c.in_ok-numbers.ensures es c.in_ok-equations.ensures.value c.in_ok-equations.ensures.made

@@ -40,4 +40,4 @@ returns c =
     let registers = ap (map register_view) c.as_slice-2.ensures ∙ c.registers.ensures.value in
     rooted_from c.args.m.now c.in_ok-table.table c.load_numbers.new.table c.in_ok-table.numbers.items c.deref.result.now c.deref-2.result.now c.in_ok-outputs.outputs.items c.in_ok-loads.loads.items
     c.as_slice-names.result.now c.as_slice.result.now c.as_slice-2.result.now c.vars.ensures.checked c.in_ok-table.ensures c.deref.ensures.value c.deref-2.ensures.value names ports registers
-    c.in_ok-outputs.ensures c.in_ok-loads.ensures
+    c.in_ok-outputs.ensures c.in_ok-loads.ensures.value c.in_ok-loads.ensures.made

@@ -1,4 +1,4 @@
-use Rattle.std.proofs.Common.{◌+◌, List, get_or, refl, arith}
+use Rattle.std.proofs.Common.{◌+◌, List, refl, arith}
 use Rattle.std.proofs.lemmas.Cmp.{ranked}
 use Rattle.std.specs.Ordering.{nat_cmp}
 use Rattle.sym_near.specs.declared.sweep.Entry.{Entry}

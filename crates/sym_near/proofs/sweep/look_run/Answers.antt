@@ -1,5 +1,5 @@
 use Rattle.std.proofs.Common.{◌≡◌, ◌<◌, ℕ, length, subst, arith}
-use Rattle.sym_near.specs.Sweep.{entry_from, SeesRun}
+use Rattle.sym_near.specs.Sweep.{SeesRun}
 use Rattle.sym_near.proofs.Sweeps.{gains_none, gains_then, sees_next, sees_whole}
 use Rattle.sym_near.proofs.sweep.look_run.Goals as goal
 
