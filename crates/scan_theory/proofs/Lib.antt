@@ -1,0 +1,12 @@
+pub mod Lists
+pub mod Bits
+pub mod Numbers
+pub mod Held
+pub mod Wired
+pub mod Cells
+pub mod Chain
+pub mod Ports
+pub mod Scene
+pub mod Meets
+pub mod Filling
+pub mod Scanning

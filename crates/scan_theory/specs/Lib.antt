@@ -1,0 +1,5 @@
+pub mod Gates
+pub mod Scan
+pub mod Path
+pub mod Meaning
+pub mod Laws
