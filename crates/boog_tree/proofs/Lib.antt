@@ -1,0 +1,13 @@
+pub mod Totals
+pub mod Within
+pub mod Making
+pub mod Matching
+pub mod Open
+pub mod Roots
+pub mod Covering
+pub mod Sweeping
+pub mod Steps
+pub mod Counting
+pub mod Placing
+pub mod Joining
+pub mod Picking

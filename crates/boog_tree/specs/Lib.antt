@@ -1,0 +1,9 @@
+pub mod Trees
+pub mod Counted
+pub mod Sums
+pub mod Cuts
+pub mod Joined
+pub mod Direct
+pub mod Picked
+pub mod Swept
+pub mod Bounds
