@@ -138,12 +138,12 @@ one_match : (f g : Fsm) (c : List ℕ) (tests : ℕ → ℕ → List (List Bool)
     → (s t : ℕ) → s < length f.states → t < length f.states → state s ≡ state t → nth c s ≡ nth c t
 one_match f g c tests is h state match s t l m e =
     (is.classes s t l m).1 (λ v.
-        let a = match.alike s v l in
-        let b = match.alike t v m in
-        let P : ℕ → Type 0 = λ x. FsmRun h x v a.outputs in
-        let same : a.outputs ≡ b.outputs = one_run h v (state t) a.outputs b.outputs (subst P e a.second) b.second in
-        let Q : List (List Bool) → Type 0 = λ y. FsmRun f t v y in
-        record { outputs = a.outputs; first = a.first; second = subst Q (sym same) b.first })
+    let a = match.alike s v l in
+    let b = match.alike t v m in
+    let P : ℕ → Type 0 = λ x. FsmRun h x v a.outputs in
+    let same : a.outputs ≡ b.outputs = one_run h v (state t) a.outputs b.outputs (subst P e a.second) b.second in
+    let Q : List (List Bool) → Type 0 = λ y. FsmRun f t v y in
+    record { outputs = a.outputs; first = a.first; second = subst Q (sym same) b.first })
 
 pub none_fewer : NoneHasFewer
 none_fewer f g c tests is h state match =

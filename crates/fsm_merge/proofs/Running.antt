@@ -68,8 +68,8 @@ pub outputs_known : (f : Fsm) → IsCheckedFsm f → (i : List Bool) (s : ℕ) �
 outputs_known f checked i s l =
     all_known (walked_output f i (Some s)) (fsm_outputs f)
     (λ name is.
-        known_after (given_output (seen f i) name) (sets_output name) (same_output (seen f i) name) (seen f i) s f.body None
-        (or_false (sure (sets_output name) s f.body) (checked.assigned.outputs s l name (in_contains name (fsm_outputs f) is))))
+    known_after (given_output (seen f i) name) (sets_output name) (same_output (seen f i) name) (seen f i) s f.body None
+    (or_false (sure (sets_output name) s f.body) (checked.assigned.outputs s l name (in_contains name (fsm_outputs f) is))))
 
 -- ---- runs
 

@@ -53,7 +53,7 @@ mutual
   sound_merged n c k h (choose parts rest) sound = (sound_parts n c k h parts sound.0, sound_merged n c k h rest sound.1)
   sound_merged n c k h (select branches rest) sound = (
     sound_branches n c k h (up 0 n) (up 0 (length k)) (λ s a. let l = among_up s 0 n a in omega arith)
-    (λ p l. up_among p 0 (length k) (omega arith) (omega arith) ∙ sym (let o = (h.own p l).0 in up_among (nth k p) 0 n (omega arith) (omega arith))) branches sound.0,
+        (λ p l. up_among p 0 (length k) (omega arith) (omega arith) ∙ sym (let o = (h.own p l).0 in up_among (nth k p) 0 n (omega arith) (omega arith))) branches sound.0,
     sound_merged n c k h rest sound.1,
   )
 

@@ -103,7 +103,10 @@ impl Merger<'_> {
                 Parts::Either(condition, part, last) => {
                     let part = Box::new(self.alloc, self.body(part)?)?;
                     let last = Box::new(self.alloc, self.body(last)?)?;
-                    return Ok((arms, Parts::Either(copy(self.alloc, condition)?, part, last)));
+                    return Ok((
+                        arms,
+                        Parts::Either(copy(self.alloc, condition)?, part, last),
+                    ));
                 }
                 Parts::Further(condition, part, more) => {
                     let part = Box::new(self.alloc, self.body(part)?)?;
