@@ -87,12 +87,11 @@ abbrev pub Makes : S2rCommand → Texts → Result Product Refusal → Type 0
 Makes c x (Ok p) = IsMadeReal c x p
 Makes c x (Err r) = (r.part ≡ None) × IsS2rRefusal c x r.status
 
--- the texts of what was read
-abbrev pub texts : List (List ℕ) → List (List ℕ) → Texts
-texts first more = record { source = get_or first 0 []; table = get_or first 1 []; catal = get_or first 2 []; cells = more }
+abbrev pub texts : List ℕ → List ℕ → List ℕ → List (List ℕ) → Texts
+texts source table catal cells = record { source = source; table = table; catal = catal; cells = cells }
 
 abbrev pub s2r_answers : S2rCommand → Inputs → Result Product Refusal → Type 0
-s2r_answers c i r = Makes c (texts i.first i.more) r
+s2r_answers c i r = Makes c (texts (get_or i.first 0 []) (get_or i.first 1 []) (get_or i.first 2 []) i.more) r
 
 -- what is written and printed of a real layout
 pub record IsProductOf (c : S2rCommand) (r : RealLayout) (p : Product) : Type 0 where

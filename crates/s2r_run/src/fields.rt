@@ -1,5 +1,5 @@
 // The fields of a line, and the numbers that they spell.
-ghost use Rattle.std.specs.Prelude.{◌≡◌, ◌==◌, ◌+◌, ◌≤◌, ℕ, IfSome, IsNone, drop, length, take};
+ghost use Rattle.std.specs.Prelude.{◌≡◌, ◌==◌, ◌+◌, ◌≤◌, ℕ, IfSome, IsNone, drop, length};
 ghost use Rattle.std.specs.List.{count_by, prefix_len};
 ghost use Rattle.s2r_run.specs.TableText.{IsNumberIn, at, fields_of, is_in_field};
 
@@ -35,10 +35,9 @@ fn behind_blank(text: &[u8]) -> &[u8]
 
 /// How many fields a line has: one more than blanks.
 pub fn field_count(line: &[u8]) -> usize
-    requires { length line.now + 1 < 2 ^ 64 }
     ensures { result ≡ length (fields_of line.now) }
 {
-    blanks(line) + 1
+    1 + blanks(line)
 }
 
 /// The field of this number, counted from 0; no bytes where there is none.

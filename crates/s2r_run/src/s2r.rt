@@ -1,5 +1,5 @@
 // `s2r` as a tool: what it reads, and what it answers.
-ghost use Rattle.std.specs.Prelude.{[], ℕ, List, IfOk, false, get_or};
+ghost use Rattle.std.specs.Prelude.{ℕ, List, IfOk, false};
 ghost use Rattle.cell_lib.specs.Library.{IsLibraryOf};
 ghost use Rattle.tool_drive.specs.Refusals.{MemoryOr};
 ghost use Rattle.tool_drive.specs.Table.{IsJudged};
@@ -65,18 +65,19 @@ fn made(
     alloc: Global,
     command: &S2rCommand,
     library: &Library,
-    first: &[FileBytes],
+    source: &[u8],
+    table: &[u8],
 ) -> Result<Product, Refusal>
-    ensures { (more : List (List ℕ)) → IsLibraryOf false (get_or first.now 2 []) more library.now
-        → IsJudged (Makes command.now (texts first.now more)) result }
+    ensures { (catal : List ℕ) (cells : List (List ℕ)) → IsLibraryOf false catal cells library.now
+        → IsJudged (Makes command.now (texts source.now table.now catal cells)) result }
 {
     // What is read has its checks behind it.
     what_is_read_is_a_figure();
-    let figure = match read_ap(alloc, bytes_at(first, 0)) {
+    let figure = match read_ap(alloc, source) {
         Ok(figure) => figure,
         Err(error) => return Err(Refusal::plain(refused(alloc, &command.source, error))),
     };
-    let table = match read_table(alloc, bytes_at(first, 1)) {
+    let table = match read_table(alloc, table) {
         Ok(table) => table,
         Err(error) => return Err(Refusal::plain(refused(alloc, &command.table, error))),
     };
@@ -84,7 +85,8 @@ fn made(
         Ok(layout) => layout,
         Err(error) => return Err(Refusal::plain(real_status(alloc, command, error))),
     };
-    Ok(product(alloc, command, &layout)?)
+    let product = product(alloc, command, &layout)?;
+    Ok(product)
 }
 
 /// `s2r`, with what it is asked: it makes the real layout of the one in SOURCE by the table in TABLE, writes it to NAME.cif, and prints
@@ -119,7 +121,7 @@ impl LibraryTool for S2rCommand {
     }
 
     fn judge_with(&self, alloc: Global, library: &Library, first: &[FileBytes]) -> Answer {
-        made(alloc, self, library, first)
+        made(alloc, self, library, bytes_at(first, 0), bytes_at(first, 1))
     }
 
     ghost refuses = { λ t first more e h. (refl, no_library e h refl) };
