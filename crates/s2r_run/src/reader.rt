@@ -16,7 +16,7 @@ fn read_scale(line: &[u8]) -> Option<u32>
     if field_count(line) != 2 {
         return None;
     }
-    if field(line, 0) != b"scale" {
+    if field(line, 0) != b"scale".as_slice() {
         return None;
     }
     number_in(1, MOST_SCALE, field(line, 1))
@@ -30,7 +30,7 @@ fn read_grow(line: &[u8]) -> Option<[u32; 6]>
     if field_count(line) != 7 {
         return None;
     }
-    if field(line, 0) != b"grow" {
+    if field(line, 0) != b"grow".as_slice() {
         return None;
     }
     let mut grow = [0; 6];
