@@ -5,3 +5,4 @@ pub mod Firsts
 pub mod Reached
 pub mod Mapped
 pub mod Cutting
+pub mod Wholes

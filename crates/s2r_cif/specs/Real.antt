@@ -75,12 +75,16 @@ abbrev pub MeetAsShapes : List Shape → List RealBox → Type 0
 MeetAsShapes all boxes = (i j : ℕ) → i < length all → j < length all → i ≢ j → (shape_at all i).metal ≡ (shape_at all j).metal
     → Meet (box_at boxes i).rect (box_at boxes j).rect ↔ Meet (shape_at all i).rect (shape_at all j).rect
 
--- The real layout of a figure of these cells: a box for each of its shapes, in their order; a cut for each of its vias, in file
--- order; and boxes of one metal meet exactly where their shapes touch.
-pub record IsRealOf (t : RealTable) (items : List Item) (l : Library) (r : RealLayout) : Type 0 where
-  pub boxes : r.boxes ≡ map (box_of t) (shapes items l)
+-- The real layout of lines that show these shapes: a box for each shape, in their order; a cut for each via, in file order; and boxes
+-- of one metal meet exactly where their shapes touch.
+pub record IsRealFrom (t : RealTable) (items : List Item) (all : List Shape) (r : RealLayout) : Type 0 where
+  pub boxes : r.boxes ≡ map (box_of t) all
   pub cuts : r.cuts ≡ cuts_of t items
-  pub meet : MeetAsShapes (shapes items l) r.boxes
+  pub meet : MeetAsShapes all r.boxes
+
+-- that of a figure with instances of these cells
+abbrev pub IsRealOf : RealTable → List Item → Library → RealLayout → Type 0
+IsRealOf t items l r = IsRealFrom t items (shapes items l) r
 
 -- ---- gaps
 

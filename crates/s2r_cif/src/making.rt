@@ -1,5 +1,5 @@
 // Real layouts of symbolic ones.
-ghost use Rattle.std.specs.Prelude.{◌≡◌, ◌++◌, ◌∷◌, ◌<◌, ◌^◌, [], All, IfErr, IfOk, OnOk, length, map};
+ghost use Rattle.std.specs.Prelude.{◌≡◌, ◌++◌, ◌<◌, ◌^◌, pos, All, IfErr, IfOk, OnOk, length, map};
 ghost use Rattle.vlsi_base.specs.Member.{In};
 ghost use Rattle.sym_geom.specs.Rect.{HasReach, IsCoordinate, square};
 ghost use Rattle.sym_geom.specs.Items.{lower_metal as lower_metal_of};
@@ -9,8 +9,8 @@ ghost use Rattle.cell_model.specs.Layout.{instances_of, shapes as shapes_of};
 ghost use Rattle.cell_model.specs.Usable.{IsFormed};
 ghost use Rattle.cell_checks.specs.Checked.{library_of};
 ghost use Rattle.cougar_extract.specs.Extracted.{IsReadyFigure};
-ghost use Rattle.s2r_cif.specs.Real.{AreRealBoxes, HasRealEdges, IsRealLayout, IsRealOf, IsRealTable, box_of as box_of_shape, cuts_of, item_cuts};
-ghost use Rattle.s2r_cif.specs.Refused.{AreDrawn, CanBeReal, IsRealRefusal};
+ghost use Rattle.s2r_cif.specs.Real.{AreRealBoxes, HasRealEdges, IsRealFrom, IsRealLayout, IsRealOf, IsRealTable, box_of as box_of_shape, cuts_of, item_cuts};
+ghost use Rattle.s2r_cif.specs.Refused.{AreDrawn, CanBeReal, IsNearRefusal, IsRealRefusal, NoneNear};
 ghost use Rattle.s2r_cif.specs.declared.table.RealTable.{RealTable as Table};
 
 use crate::error::RealError;
@@ -153,6 +153,52 @@ fn cuts(alloc: Global, table: &RealTable, items: &[Item]) -> Result<Vec<RealBox>
     Ok(made)
 }
 
+/// The real layout of lines that show these shapes.
+fn real_shapes(
+    alloc: Global,
+    table: &RealTable,
+    items: &[Item],
+    shapes: &[Shape],
+) -> Result<RealLayout, RealError>
+    requires table { IsRealTable table.now }
+    requires ready { All IsReady items.now }
+    requires few { length shapes.now < 2 ^ 32 }
+    requires reach { All (λ s. HasReach s.rect) shapes.now }
+    ensures real { IfOk result (λ r. IsRealFrom table.now items.now shapes.now r) }
+    ensures layout { IfOk result (λ r. IsRealLayout r) }
+    ensures apart { OnOk result (NoneNear table.now shapes.now) }
+    ensures refused { IfErr result (λ e. IsNearRefusal table.now shapes.now e) }
+{
+    keep_apart(alloc, table, shapes)?;
+    let boxes = boxes(alloc, table, shapes)?;
+    let cuts = cuts(alloc, table, items)?;
+    Ok(RealLayout {
+        boxes: Listed::new(boxes),
+        cuts: Listed::new(cuts),
+    })
+}
+
+/// The real layout of lines with instances of these cells.
+fn real_of(
+    alloc: Global,
+    table: &RealTable,
+    items: &[Item],
+    cells: &[Cell],
+) -> Result<RealLayout, RealError>
+    requires table { IsRealTable table.now }
+    requires ready { All IsReady items.now }
+    requires few { length items.now < 2 ^ 32 }
+    requires places { (i : PlacedInstance) → In i (instances_of items.now) → IsCoordinate i.x × IsCoordinate i.y }
+    requires formed { All IsFormed cells.now }
+    ensures real { IfOk result (λ r. IsRealOf table.now items.now (library_of cells.now) r) }
+    ensures layout { IfOk result (λ r. IsRealLayout r) }
+    ensures accepted { OnOk result (CanBeReal table.now items.now (library_of cells.now)) }
+    ensures refused { IfErr result (λ e. IsRealRefusal table.now items.now (library_of cells.now) e) }
+{
+    let shapes = mapped_shapes(alloc, items, cells)?;
+    real_shapes(alloc, table, items, &shapes)
+}
+
 /// The real layout of a figure of mappable cells: a box for each of its shapes, in their order, and a cut for each of its vias, in
 /// file order. Boxes of one metal meet exactly where their shapes touch.
 ///
@@ -177,11 +223,5 @@ pub fn to_real(
     ensures accepted { OnOk result (CanBeReal table.now figure.now.items library.now) }
     ensures refused { IfErr result (λ e. IsRealRefusal table.now figure.now.items library.now e) }
 {
-    let items = figure.items.as_slice();
-    let shapes = mapped_shapes(alloc, items, library.cells())?;
-    keep_apart(alloc, table, &shapes)?;
-    Ok(RealLayout {
-        boxes: Listed::new(boxes(alloc, table, &shapes)?),
-        cuts: Listed::new(cuts(alloc, table, items)?),
-    })
+    real_of(alloc, table, figure.items.as_slice(), library.cells())
 }
