@@ -94,8 +94,7 @@ module _ (t : RealTable) (all : List Shape) (apart : NoneNear t all) where
     meet_as_shapes i j here there differ metal =
         let one = box_is i here in
         let other : (box_at boxes j).rect ≡ real_rect t.scale (grow i) (rect j) =
-        box_is j there ∙ ap (λ (g : ℕ). real_rect t.scale g (rect j)) (sym (same_grow i j metal)) in
-        (
+        box_is j there ∙ ap (λ (g : ℕ). real_rect t.scale g (rect j)) (sym (same_grow i j metal)) in (
           λ h.
               let real : Meet (real_rect t.scale (grow i) (rect i)) (real_rect t.scale (grow i) (rect j)) =
               subst (λ (r : Rect). Meet (real_rect t.scale (grow i) (rect i)) r) other (subst (λ (r : Rect). Meet r (box_at boxes j).rect) one h) in

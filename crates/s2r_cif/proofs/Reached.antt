@@ -69,10 +69,10 @@ placed_reach SymXY r b x y h k m n = record {
 -- a cell that is found is one of the library's
 named_formed : (cells : List Cell) (model : List ℕ) (c : Cell) → ((d : Cell) → In d cells → IsFormed d) → cell_named cells model ≡ Some c → IsFormed c
 named_formed [] model c each e = absurd (cc e)
-named_formed (d ∷ rest) model c each e = by (is_same_text d.name model) e where
-  by : (b : Bool) → (if b then Some d else cell_named rest model) ≡ Some c → IsFormed c
-  by true g = subst IsFormed (same_Some d c g) (each d here)
-  by false g = named_formed rest model c (λ x i. each x (there i)) g
+named_formed (d ∷ rest) model c each e = by (is_same_text d.name model) (named_formed rest model c (λ x i. each x (there i))) e where
+  by : (b : Bool) → (cell_named rest model ≡ Some c → IsFormed c) → (if b then Some d else cell_named rest model) ≡ Some c → IsFormed c
+  by true behind g = subst IsFormed (same_Some d c g) (each d here)
+  by false behind g = behind g
 
 one_reach : (o : Option Cell) (i : Placed) (s : Shape) → ((c : Cell) → o ≡ Some c → IsFormed c) → IsCoordinate i.x → IsCoordinate i.y → In s (instance_shapes o i) → HasReach s.rect
 one_reach None i s formed x y h = elim h [ ]

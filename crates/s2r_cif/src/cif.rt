@@ -86,12 +86,7 @@ fn box_lines(
 }
 
 /// The line that begins a layer.
-fn heading(
-    alloc: Global,
-    out: &mut FileBytes,
-    letter: u8,
-    level: u8,
-) -> Result<(), AllocError>
+fn heading(alloc: Global, out: &mut FileBytes, letter: u8, level: u8) -> Result<(), AllocError>
     ensures { OnOk result (out.new ≡ out.old ++ heading_text letter level) }
 {
     let number = level.to_string(alloc)?;

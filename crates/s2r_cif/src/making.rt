@@ -74,11 +74,7 @@ fn box_of(table: &RealTable, shape: &Shape) -> RealBox
 }
 
 /// The boxes of shapes, in their order.
-fn boxes(
-    alloc: Global,
-    table: &RealTable,
-    shapes: &[Shape],
-) -> Result<Vec<RealBox>, AllocError>
+fn boxes(alloc: Global, table: &RealTable, shapes: &[Shape]) -> Result<Vec<RealBox>, AllocError>
     requires table { IsRealTable table.now }
     requires reach { All (λ s. HasReach s.rect) shapes.now }
     ensures value { IfOk result (λ made. made.items ≡ map (box_of_shape table.now) shapes.now) }

@@ -30,12 +30,7 @@ fn grow_together(table: &RealTable, shapes: &[Shape], pair: &Pair) -> bool
 }
 
 /// The first of the pairs with this gap that are so close that their boxes meet.
-fn first_close(
-    table: &RealTable,
-    shapes: &[Shape],
-    gap: u32,
-    near: &[Pair],
-) -> Option<Pair>
+fn first_close(table: &RealTable, shapes: &[Shape], gap: u32, near: &[Pair]) -> Option<Pair>
     requires table { IsRealTable table.now }
     requires reach { All (λ s. HasReach s.rect) shapes.now }
     requires near { AreRelated shapes.now (relation.Near gap) near.now }

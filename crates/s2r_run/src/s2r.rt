@@ -15,8 +15,8 @@ use cell_lib::LibraryTool;
 use s2r_cif::{RealError, RealLayout, to_real, write_cif};
 use std::alloc::{AllocError, Global};
 use tool_drive::{
-    Answer, Product, Refusal, Status, Verdict, Wanted, bytes_at, count_text, file_name, named_fault,
-    refused, unknown_cell,
+    Answer, Product, Refusal, Status, Verdict, Wanted, bytes_at, count_text, file_name,
+    named_fault, refused, unknown_cell,
 };
 use vlsi_base::{FaultKind, FileBytes, FileName, Name};
 
@@ -42,11 +42,7 @@ fn real_status(alloc: Global, command: &S2rCommand, error: RealError) -> Status
 }
 
 // What is written and printed of a real layout.
-fn product(
-    alloc: Global,
-    command: &S2rCommand,
-    layout: &RealLayout,
-) -> Result<Product, AllocError>
+fn product(alloc: Global, command: &S2rCommand, layout: &RealLayout) -> Result<Product, AllocError>
     requires { IsRealLayout layout.now }
     ensures { IfOk result (λ p. IsProductOf command.now layout.now p) }
 {
