@@ -30,6 +30,7 @@ RUNS = [
     ("nero r.vst -p p.ap -l lib -o n", {"n.ap"}, 0),
     ("cougar out.ap -l lib -o n", {"n.vst"}, 0),
     ("flatbeh r.vst -l lib -o n", {"n.vbe"}, 0),
+    ("s2r out.ap -p t.real -l lib -o n", {"n.cif"}, 0),
     ("asimut row1.vbe -p t.pat", set(), 0),
     ("asimut r.vst -p t.pat -l lib", set(), 2),
     ("asimut r.vst -p u.pat -l lib", set(), 0),
@@ -44,7 +45,7 @@ def all_files():
     flow, nero = (Case(ROWS / f"{case}.txt") for case in ("flow-layouts/one-inverter", "nero-runs/one-inverter"))
     few = of_cells([name for name in FIVE if name != "na2_x1"], "few")
     named = {"row1.vbe": flow.before["row1.vbe"], "out.ap": flow.after["out.ap"], "r.vst": nero.before["r.vst"], "p.ap": nero.before["p.ap"]}
-    made = {"s.fsm": syf.ring(3), "t.pat": PATTERNS, "u.pat": PATTERNS.replace(b"in i", b"in a").replace(b"out nq", b"out y")}
+    made = {"s.fsm": syf.ring(3), "t.pat": PATTERNS, "t.real": b"scale 2\ngrow 10 10 10 10 10 10\n", "u.pat": PATTERNS.replace(b"in i", b"in a").replace(b"out nq", b"out y")}
     sources = {path.name: path.read_bytes() for path in (EXAMPLES / "lock/lock.fsm", EXAMPLES / "stuck/wide40.vbe")}
     return {**of_cells(FIVE), **few, **named, **made, **sources}
 

@@ -2,12 +2,14 @@
 """Turns a layout with its cells into CIF, and compares what a viewer's own extraction says of that with the netlist that `cougar` wrote.
 
 Usage: bench/viewer.py cif LAYOUT.ap LIBRARY >LAYOUT.cif
-       bench/viewer.py compare LAYOUT.ap LIBRARY NETLIST.vst NETS
+       bench/viewer.py labels LAYOUT.ap LIBRARY TABLE.real
+       bench/viewer.py compare LAYOUT.ap LIBRARY NETLIST.vst NETS [--names]
 
 The CIF has a symbol for each cell, and instances as calls of these, so that it is the viewer that turns and moves them. Metal k is the layer
 Mk, the cut of a via between k and k + 1 is Vk, and each rectangle of a terminal has a label on Tk: `t` and a number. NETS has a line for each net of
 the viewer, its labels with commas between them. A terminal has one label on all its rectangles, which joins them. Terminals that show no rectangle are
-left out.
+left out. What `labels` prints are the same labels for the CIF file of `s2r`, each on a line with its layer and its point in units of the table. With
+`--names` each net of the viewer is listed with its port's name, or the number of its pins.
 """
 import pathlib
 import re
@@ -72,6 +74,16 @@ def cif(figure, cells):
     yield f"DF; C {len(numbers) + 1}; E"
 
 
+def label_lines(flat, table):
+    """The labels of all rectangles of terminals: layer, point and text."""
+    labels = terminals(flat)
+    scale = int(re.match(r"scale (\d+)", table.read_text())[1])
+    for shape in flat.shapes:
+        if shape.terminal is not None:
+            x1, y1, x2, y2 = shape.box
+            yield f"T{shape.metal} {scale * (x1 + x2) / 2} {scale * (y1 + y2) / 2} t{labels[shape.terminal]}"
+
+
 # ---- the comparison
 
 
@@ -111,11 +123,16 @@ def of_netlist(text):
 
 def main():
     words = sys.argv[1:]
-    if not words or (words[0], len(words)) not in (("cif", 3), ("compare", 5)):
+    has_names = words[-1:] == ["--names"]
+    words = words[:-1] if has_names else words
+    if not words or (words[0], len(words)) not in (("cif", 3), ("labels", 4), ("compare", 5)):
         sys.exit(__doc__)
     figure, cells = ap.read(pathlib.Path(words[1]).read_bytes()), cellcheck.cells(cellcheck.folder(words[2]), False)
     if words[0] == "cif":
         print("\n".join(cif(figure, cells)))
+        return
+    if words[0] == "labels":
+        print("\n".join(label_lines(Flat(figure, cells), pathlib.Path(words[3]))))
         return
     labels = terminals(Flat(figure, cells))
     seen = of_viewer(pathlib.Path(words[4]), labels)
@@ -125,6 +142,9 @@ def main():
     for which, nets in (("the viewer", seen - written), ("cougar", written - seen)):
         for net in sorted(map(sorted, nets))[:5]:
             print(f"only {which} has the net {', '.join(net)}")
+    for net in sorted(map(sorted, seen)) if has_names else []:
+        ports = [name for name in net if " " not in name]
+        print(f"  {' '.join(ports) or '*'}: {len(net) - len(ports)} pins")
     sys.exit(seen != written)
 
 

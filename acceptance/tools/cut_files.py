@@ -13,6 +13,7 @@ from acceptance.tools.table import TOOLS
 FAULT, LIBRARY = 2, 3
 FLOW, OCP, NERO = "flow-layouts/one-inverter", "ocp-runs/one-inverter", "nero-runs/one-inverter"
 ENDS = {"vbe": b";", "vst": b";", "fsm": b";", "pat": b";", "ap": b"F"}
+TABLE = b"scale 2\ngrow 10 10 10 10 10 10\n"
 PATTERNS = "in {0};\nout {1};\nbegin\n< 0 ns> p : 0 ?1;\n< 10 ns> : 1 ?0;\nend;\n"
 # the words, the case that has the files, and the file that is cut
 RUNS = [
@@ -30,6 +31,7 @@ RUNS = [
     ("proof row1.vbe -b o.vbe", FLOW, "o.vbe"),
     ("cougar out.ap -l lib -o n", FLOW, "out.ap"),
     ("druc out.ap -l lib", FLOW, "out.ap"),
+    ("s2r out.ap -p t.real -l lib -o n", FLOW, "out.ap"),
     ("loon r.vst -l lib -o n", OCP, "r.vst"),
     ("ocp r.vst -l lib -o n", OCP, "r.vst"),
     ("flatbeh r.vst -l lib -o n", OCP, "r.vst"),
@@ -43,7 +45,7 @@ def files_of(case):
     """The files of a case and those that it writes, and sources for the tools that it doesn't show."""
     found = Case(ROWS / f"{case}.txt")
     names = ("i", "nq") if "row1.vbe" in found.before else ("a", "y")
-    files = {**found.before, **found.after, "s.fsm": syf.ring(2), "t.pat": PATTERNS.format(*names).encode()}
+    files = {**found.before, **found.after, "s.fsm": syf.ring(2), "t.pat": PATTERNS.format(*names).encode(), "t.real": TABLE}
     for name, other in (("row1.vbe", "o.vbe"), ("r.vst", "o.vst")):
         if name in files:
             files[other] = files[name]

@@ -21,10 +21,11 @@ SMALL, LARGE = 20, 300
 FILE, MEMORY, LIMIT = 7, 8, 9
 SHORT = 1048576
 PATTERNS = b"in ck;\nin x (3 downto 0) X;\nout y (3 downto 0) X;\nbegin\n< 0 ns> p : 0 0 ?*;\n< 5 ns> : 1 a ?*;\nend;\n"
+TABLE = b"scale 2\ngrow 10 10 10 10 10 10\n"
 MOST_MEMORY, MEMORY_SIZES, MEMORY_STEP = 4 << 30, 20, 1 << 16
 REWRITTEN = 5
 ENDINGS = {"flow": ["ap"], "gen": ["vbe", "ap"], "syf": ["vbe"], "boom": ["vbe"], "boog": ["vst"], "loon": ["vst"], "ocp": ["ap"], "nero": ["ap"]}
-ENDINGS |= {"cougar": ["vst"], "flatbeh": ["vbe"]}
+ENDINGS |= {"cougar": ["vst"], "flatbeh": ["vbe"], "s2r": ["cif"]}
 LINES = [
     "flow g.vbe -l lib -o r --tracks",
     "flow g.vbe -l lib -o r --moves 100",
@@ -39,6 +40,7 @@ LINES = [
     "nero n.vst -p p.ap -l lib -o r",
     "cougar g.ap -l lib -o r",
     "flatbeh n.vst -l lib -o r",
+    "s2r g.ap -p t.real -l lib -o r",
     "asimut g.vbe -p t.pat",
     "asimut n.vst -p t.pat -l lib",
     "lvx n.vst -b n.vst -l lib",
@@ -81,7 +83,7 @@ class Plain(NamedTuple):
 def made_files(program, size):
     """A circuit, its netlist, its placement and its layout, made by the program, and a state machine; None where that fails."""
     with Room() as room:
-        room.write({**of_cells(FIVE), "s.fsm": syf.fork(16), "t.pat": PATTERNS, "wide40.vbe": (EXAMPLES / "stuck/wide40.vbe").read_bytes()})
+        room.write({**of_cells(FIVE), "s.fsm": syf.fork(16), "t.pat": PATTERNS, "t.real": TABLE, "wide40.vbe": (EXAMPLES / "stuck/wide40.vbe").read_bytes()})
         for line in (f"gen --size {size} -l lib -o g --tracks", "boog g.vbe -l lib -o n", "ocp n.vst -l lib -o p --moves 100"):
             if room.run(program, line.split())[0] != 0:
                 return None

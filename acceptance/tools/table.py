@@ -28,6 +28,7 @@ from acceptance.tools import (
     net_jobs,
     ocp,
     proof,
+    s2r,
     second_router,
     syf,
 )
@@ -76,5 +77,6 @@ TOOLS = {
     "druc": Tool(druc.second, answers.agrees, druc.jobs),
     "proof": Tool(proof.second, proof.agrees, proof.jobs),
     "flatbeh": Tool(flatbeh.second, flatbeh.agrees, flatbeh.jobs, flatbeh.writes),
+    "s2r": Tool(s2r.second, answers.agrees, s2r.jobs, s2r.writes),
     "syf": Tool(syf.second, answers.agrees, syf.jobs, syf.writes),
 }

@@ -34,6 +34,8 @@ use Rattle.proof_run.specs.Words.{proof}
 use Rattle.proof_run.specs.Proof.{proof_plan, proof_answers}
 use Rattle.flatbeh_run.specs.Words.{flatbeh}
 use Rattle.flatbeh_run.specs.Flatbeh.{flatbeh_plan, flatbeh_answers}
+use Rattle.s2r_run.specs.Words.{s2r}
+use Rattle.s2r_run.specs.S2r.{s2r_plan, s2r_answers}
 use Rattle.tool_run.specs.declared.words.Command.{Command}
 use Rattle.tool_run.specs.declared.words.Command.TheVariants as command
 
@@ -62,6 +64,7 @@ task_of (command.Lvx c) = record { word = lvx.word; plan = lvx_plan c; answers =
 task_of (command.Druc c) = record { word = druc.word; plan = druc_plan c; answers = druc_answers c }
 task_of (command.Proof c) = record { word = proof.word; plan = proof_plan c; answers = proof_answers c }
 task_of (command.Flatbeh c) = record { word = flatbeh.word; plan = flatbeh_plan c; answers = flatbeh_answers c }
+task_of (command.S2r c) = record { word = s2r.word; plan = s2r_plan c; answers = s2r_answers c }
 
 -- the word of the command's tool
 abbrev pub word_of : Command → List ℕ

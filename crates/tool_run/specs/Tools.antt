@@ -15,6 +15,7 @@ use Rattle.lvx_run.specs.Words.{lvx, lvx_from}
 use Rattle.druc_run.specs.Words.{druc, druc_from}
 use Rattle.proof_run.specs.Words.{proof, proof_from}
 use Rattle.flatbeh_run.specs.Words.{flatbeh, flatbeh_from}
+use Rattle.s2r_run.specs.Words.{s2r, s2r_from}
 use Rattle.tool_run.specs.declared.words.Command.{Command}
 use Rattle.tool_run.specs.declared.words.Command.TheVariants as command
 
@@ -33,6 +34,7 @@ tools =
     ∷ tool druc command.Druc druc_from
     ∷ tool proof command.Proof proof_from
     ∷ tool flatbeh command.Flatbeh flatbeh_from
+    ∷ tool s2r command.S2r s2r_from
     ∷ []
 
 -- all entries, in the order of the usage line

@@ -58,5 +58,6 @@ pub fn run_tool<S: Shelf, T: Sink>(
         Command::Druc(command) => drive(alloc, b"druc", &WithLibrary(command), shelf, out),
         Command::Proof(command) => drive(alloc, b"proof", command, shelf, out),
         Command::Flatbeh(command) => drive(alloc, b"flatbeh", &WithLibrary(command), shelf, out),
+        Command::S2r(command) => drive(alloc, b"s2r", &WithLibrary(command), shelf, out),
     }
 }

@@ -18,6 +18,7 @@ use lvx_run::{LVX_ENTRY, LvxCommand};
 use nero_run::{NERO_ENTRY, NeroCommand};
 use ocp_run::{OCP_ENTRY, OcpCommand};
 use proof_run::{PROOF_ENTRY, ProofCommand};
+use s2r_run::{S2R_ENTRY, S2rCommand};
 use std::alloc::Global;
 use syf_run::{SYF_ENTRY, SyfCommand};
 use tool_words::{Entry, Words, WordsError, is_same, read_asked};
@@ -38,6 +39,7 @@ pub enum Command {
     Druc(DrucCommand),
     Proof(ProofCommand),
     Flatbeh(FlatbehCommand),
+    S2r(S2rCommand),
 }
 
 const ENTRIES: &[Entry] = &[
@@ -55,6 +57,7 @@ const ENTRIES: &[Entry] = &[
     DRUC_ENTRY,
     PROOF_ENTRY,
     FLATBEH_ENTRY,
+    S2R_ENTRY,
 ];
 
 /// How all tools are called, in the order of the usage line.
@@ -104,6 +107,9 @@ fn read_behind(alloc: Global, tool: &[u8], words: &[Text]) -> Result<Command, Wo
     }
     if is_same(b"flatbeh", tool) {
         return Ok(Command::Flatbeh(read_asked(alloc, FLATBEH_ENTRY, words)?));
+    }
+    if is_same(b"s2r", tool) {
+        return Ok(Command::S2r(read_asked(alloc, S2R_ENTRY, words)?));
     }
     Err(WordsError::Usage)
 }

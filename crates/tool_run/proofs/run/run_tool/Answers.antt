@@ -64,3 +64,8 @@ pub returns-in-Flatbeh-clause-line : goal.returns-in-Flatbeh-clause-line
 returns-in-Flatbeh-clause-line g c lined =
     subst (λ (k : Command). IsLine (g.T.Sink.seen c.args.out.now) (g.T.Sink.seen c.drive-in-Flatbeh.new.out) (line_of (word_of k) c.drive-in-Flatbeh.result)) (sym c.in-Flatbeh.is)
     (c.drive-in-Flatbeh.ensures.line lined)
+
+pub returns-in-S2r-clause-line : goal.returns-in-S2r-clause-line
+returns-in-S2r-clause-line g c lined =
+    subst (λ (k : Command). IsLine (g.T.Sink.seen c.args.out.now) (g.T.Sink.seen c.drive-in-S2r.new.out) (line_of (word_of k) c.drive-in-S2r.result)) (sym c.in-S2r.is)
+    (c.drive-in-S2r.ensures.line lined)

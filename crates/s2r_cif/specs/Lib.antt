@@ -1,0 +1,3 @@
+pub mod Real
+pub mod Refused
+pub mod Cif

@@ -1,0 +1,3 @@
+pub mod Words
+pub mod TableText
+pub mod S2r

@@ -1,0 +1,13 @@
+//! `s2r` as a tool: a layout of mappable cells in real units, as a CIF file.
+//!
+//! What it reads and answers stands in `specs/S2r.antt`, the text of its table in `specs/TableText.antt`; when each status comes and
+//! what it leaves, for all tools, in `specs/Table.antt` of `tool_drive`.
+#![tactic(auto)]
+
+mod fields;
+mod near;
+mod reader;
+mod s2r;
+mod words;
+
+pub use words::{S2R_ENTRY, S2rCommand};
