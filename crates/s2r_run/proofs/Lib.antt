@@ -1,2 +1,3 @@
 pub mod Cutting
 pub mod Refusing
+pub mod Numbers

@@ -25,11 +25,11 @@ abbrev pub at : List (List ℕ) → ℕ → List ℕ
 at fields i = slice_index_or fields i []
 
 -- 1 to 20 decimal digits, whose number lies within these bounds
-pub record IsNumberIn (least most : ℕ) (text : List ℕ) (n : ℕ) : Type 0 where
+pub record IsNumberIn (low high : ℕ) (text : List ℕ) (n : ℕ) : Type 0 where
   pub numeral : IsNumeral text
   pub value : n ≡ value_of text
-  pub least : least ≤ n
-  pub most : n ≤ most
+  pub least : low ≤ n
+  pub most : n ≤ high
 
 -- ---- lines
 

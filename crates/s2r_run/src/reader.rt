@@ -74,7 +74,7 @@ pub fn read_table(alloc: Global, bytes: &[u8]) -> Result<RealTable, ReadError>
     let Some(grow) = read_grow(second) else {
         return Err(fault(alloc, 2, FaultKind::BadLine));
     };
-    if lines.next_line().is_some() {
+    if let Some(_third) = lines.next_line() {
         return Err(fault(alloc, 3, FaultKind::BadLine));
     }
     Ok(RealTable { scale, grow })
