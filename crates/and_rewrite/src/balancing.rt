@@ -171,5 +171,6 @@ pub(crate) fn balanced(alloc: Global, rooted: &Rooted) -> Result<Rooted, AllocEr
         }
         signals.push(signal)?;
     }
-    rooted_by(alloc, deep.graph, &signals, &rooted.roots)
+    let Deep { graph, .. } = deep;
+    rooted_by(alloc, graph, &signals, &rooted.roots)
 }

@@ -5,6 +5,7 @@ use std::alloc::{AllocError, Global};
 
 /// How many nodes a cut has at the most, and how many cuts of a gate are kept.
 pub(crate) const LEAVES: usize = 4;
+
 const KEPT: usize = 8;
 
 /// The words of four variables: bit k is the value where the variables are the bits of k.

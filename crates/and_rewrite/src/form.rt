@@ -27,6 +27,7 @@ const XOR_COST: u32 = 3;
 
 /// How deep forms are sought at the most, and what a form weighs that wasn't found so.
 const DEEPEST: u32 = 12;
+
 const UNKNOWN_COST: u32 = 1000;
 
 /// The pairs of variables by which four are halved.
@@ -44,7 +45,10 @@ fn cofactors(word: u16, k: usize) -> (u16, u16) {
     let shift = 1u32.wrapping_shl(k as u32);
     let high = word & variable;
     let low = word & (variable ^ u16::MAX);
-    (low | low.wrapping_shl(shift), high | high.wrapping_shr(shift))
+    (
+        low | low.wrapping_shl(shift),
+        high | high.wrapping_shr(shift),
+    )
 }
 
 fn inverse(word: u16) -> u16 {
@@ -196,7 +200,11 @@ impl Forms {
         let mut best: Option<Known> = None;
         for form in candidates(alloc, word)?.iter() {
             let cost = self.form_cost(alloc, *form, depth - 1)?;
-            if best.is_none_or(|known| cost < known.cost) {
+            let is_better = match best {
+                Some(known) => cost < known.cost,
+                None => true,
+            };
+            if is_better {
                 best = Some(Known { form: *form, cost });
             }
         }

@@ -7,6 +7,7 @@ use and_graph::{AndGraph, Signal};
 use std::alloc::{AllocError, Global};
 
 /// How many gates of the new graph a form takes: those that aren't there, and those that would go.
+#[derive(Drop)]
 struct Trial<'a> {
     graph: &'a AndGraph,
     going: &'a [u32],
@@ -37,6 +38,10 @@ impl<'a> Trial<'a> {
     }
 }
 
+fn trial_popped(waiting: &mut Vec<Option<Signal>>) -> Option<Signal> {
+    waiting.pop()?
+}
+
 fn inverse(signal: Option<Signal>) -> Option<Signal> {
     Some(signal?.inverse())
 }
@@ -61,18 +66,18 @@ fn taken(
             Step::Constant(bit) => Some(Signal::ZERO.inverse_if(bit)),
             Step::Variable(k, is_inverse) => Some(leaf_signal(leaves, k, is_inverse)),
             Step::And => {
-                let left = waiting.pop().flatten();
-                let right = waiting.pop().flatten();
+                let left = trial_popped(&mut waiting);
+                let right = trial_popped(&mut waiting);
                 trial.and(left, right)
             }
             Step::Or => {
-                let left = waiting.pop().flatten();
-                let right = waiting.pop().flatten();
+                let left = trial_popped(&mut waiting);
+                let right = trial_popped(&mut waiting);
                 inverse(trial.and(inverse(left), inverse(right)))
             }
             Step::Xor => {
-                let left = waiting.pop().flatten();
-                let right = waiting.pop().flatten();
+                let left = trial_popped(&mut waiting);
+                let right = trial_popped(&mut waiting);
                 trial.xor(left, right)
             }
         };
@@ -237,20 +242,22 @@ impl<'a> Rewriter<'a> {
             if saved == 0 && !is_flat {
                 continue;
             }
-            if best.is_none_or(|other| other.saved < saved) {
+            let is_better = match best {
+                Some(other) => other.saved < saved,
+                None => true,
+            };
+            if is_better {
                 best = Some(Saving { cut: *cut, saved });
             }
         }
-        Ok(best.map(|saving| saving.cut))
+        match best {
+            Some(saving) => Ok(Some(saving.cut)),
+            None => Ok(None),
+        }
     }
 
     // What stands for a gate in the new graph.
-    fn rewrite(
-        &mut self,
-        alloc: Global,
-        number: u32,
-        is_flat: bool,
-    ) -> Result<Signal, AllocError> {
+    fn rewrite(&mut self, alloc: Global, number: u32, is_flat: bool) -> Result<Signal, AllocError> {
         let Some(gate) = self.old.gate(number) else {
             return Ok(Signal::ZERO);
         };
@@ -298,5 +305,6 @@ pub(crate) fn rewritten(
         let signal = rewriter.rewrite(alloc, old.gate_signal(k).number(), is_flat)?;
         rewriter.signals.push(signal)?;
     }
-    rooted_by(alloc, rewriter.graph, &rewriter.signals, &rooted.roots)
+    let Rewriter { graph, signals, .. } = rewriter;
+    rooted_by(alloc, graph, &signals, &rooted.roots)
 }

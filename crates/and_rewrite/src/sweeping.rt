@@ -7,7 +7,11 @@ use std::alloc::{AllocError, Global};
 
 /// How many words of 64 patterns are simulated. Up to this many inputs all their patterns are among them.
 const WORDS: usize = 32;
+
 const WHOLE_INPUTS: u32 = 11;
+
+/// On how many patterns a node has to be 1, and 0, at the least to be taken for another one, where not all patterns are there.
+const COMMON: u32 = 32;
 
 /// In how many ways words of an input are drawn: at random, mostly 0, mostly 1.
 const DENSITIES: usize = 5;
@@ -30,6 +34,7 @@ struct Signature {
 }
 
 const FIRST_FACTOR: u64 = 0x9e37_79b9_7f4a_7c15;
+
 const SECOND_FACTOR: u64 = 0xc2b2_ae3d_27d4_eb4f;
 
 /// The words of all nodes, those of one node after those of another.
@@ -96,6 +101,18 @@ impl Simulation {
         signal.inverse_if(self.word(signal, 0) & 1 == 1)
     }
 
+    // Whether a signal is both 1 and 0 on many patterns.
+    fn is_common(&self, signal: Signal) -> bool {
+        let mut ones = 0u32;
+        let mut zeros = 0u32;
+        for at in 0..WORDS {
+            let word = self.word(signal, at);
+            ones = ones.saturating_add(word.count_ones());
+            zeros = zeros.saturating_add(word.count_zeros());
+        }
+        ones >= COMMON && zeros >= COMMON
+    }
+
     fn signature(&self, signal: Signal) -> Signature {
         let mut first = 0u64;
         let mut second = 1u64;
@@ -109,7 +126,7 @@ impl Simulation {
 }
 
 // The words of the constant and of the inputs.
-fn simulation(alloc: Global, graph: &AndGraph) -> Result<Simulation, AllocError> {
+fn begun(alloc: Global, graph: &AndGraph) -> Result<Simulation, AllocError> {
     let mut simulation = Simulation {
         words: vec![in alloc; 0u64; WORDS]?,
         state: FIRST_FACTOR,
@@ -127,12 +144,17 @@ fn simulation(alloc: Global, graph: &AndGraph) -> Result<Simulation, AllocError>
 #[derive(Drop)]
 struct Found {
     simulation: Simulation,
+    /// All patterns of the inputs are there.
+    is_whole: bool,
     signals: IndexMap<Signature, Signal>,
 }
 
 impl Found {
-    // The signal that agrees with another one on all patterns: that one itself where it is the first.
+    // The signal that agrees with another one on all patterns: that one itself where it is the first, or where too little is known of it.
     fn first_alike(&mut self, signal: Signal) -> Result<Signal, AllocError> {
+        if !self.is_whole && !self.simulation.is_common(signal) {
+            return Ok(signal);
+        }
         let low = self.simulation.low(signal);
         let is_inverse = low != signal;
         let signature = self.simulation.signature(low);
@@ -150,7 +172,8 @@ pub(crate) fn swept(alloc: Global, rooted: &Rooted) -> Result<Rooted, AllocError
     let mut graph = AndGraph::new(alloc, old.inputs());
     let mut signals = first_signals(alloc, old)?;
     let mut found = Found {
-        simulation: simulation(alloc, old)?,
+        simulation: begun(alloc, old)?,
+        is_whole: old.inputs() <= WHOLE_INPUTS,
         signals: IndexMap::new(alloc),
     };
     for signal in signals.iter() {

@@ -1,7 +1,6 @@
 -- From equal roots to a machine that may be taken.
-use Rattle.std.proofs.Common.{◌≡◌, ℕ, ◌+◌, ◌-◌, ◌*◌, ◌^◌, ◌<◌, ◌≤◌, List, ◌++◌, length, min, ap, ◌∙◌, arith, length-append}
-use Rattle.std.specs.Prelude.{option_to_list}
-use Rattle.vlsi_base.specs.declared.name.Name.{Name}
+use Rattle.std.proofs.Common.{◌≡◌, ℕ, ◌+◌, ◌-◌, ◌^◌, ◌<◌, ◌≤◌, List, ◌++◌, length, min, ap, ◌∙◌, arith, length-append}
+use Rattle.std.specs.Prelude.{option_to_list, true, Bool, Result, Ok, Err, IfOk}
 use Rattle.vlsi_base.specs.declared.name.Port.{Port}
 use Rattle.machine_core.specs.Machine.{Machine, input_ports, outputs}
 use Rattle.machine_core.specs.Order.{held_names, equation_names}
@@ -50,3 +49,8 @@ acceptable m o most size other weight cm co a equal few sized measured less weig
       size = omega (arith, few, sized, measured, less);
       inner = omega (arith, few, sized, measured, less, weighs, bound, inner);
     }
+
+-- where an answer of yes says one thing, and that says another, an answer of yes says that
+pub where_equal : {E P Q : Type 0} (r : Result Bool E) → IfOk r (λ b. b ≡ true → P) → (P → Q) → IfOk r (λ b. b ≡ true → Q)
+where_equal (Ok b) h f = λ e. f (h e)
+where_equal (Err e) h f = tt

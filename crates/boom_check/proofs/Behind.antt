@@ -1,5 +1,5 @@
 -- Expressions over names behind which new ones stand.
-use Rattle.std.proofs.Common.{◌≡◌, ℕ, ◌+◌, ap, ◌∙◌, arith, if◌then◌else◌}
+use Rattle.std.proofs.Common.{◌≡◌, ℕ, ◌+◌, refl, ap, ◌∙◌, arith, if◌then◌else◌}
 use Rattle.std.specs.Prelude.{nat_lt}
 use Rattle.bool_expr.specs.Expression.{Expression, constant, variable, inverse, pair, choice, size_of, IsOver}
 use Rattle.bool_expr.specs.Renumbering.{renumbered}

@@ -2,6 +2,7 @@ pub mod Lists
 pub mod Sums
 pub mod Behind
 pub mod Together
-mod Reading
-mod Weighing
+mod ReadsMore
+mod InnerSizes
+mod Comparing
 mod Accepting

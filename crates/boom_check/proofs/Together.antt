@@ -1,8 +1,9 @@
 -- From the parts to the machine.
-use Rattle.std.proofs.Common.{◌≡◌, inl, inr, ℕ, zero, suc, ◌+◌, ◌<◌, ◌≤◌, List, [], ◌∷◌, ◌++◌, length, map, take, drop, refl, sym, ap, subst, ◌∙◌, arith}
+use Rattle.std.proofs.Common.{◌≡◌, inl, inr, ℕ, zero, suc, ◌+◌, ◌≤◌, List, [], ◌∷◌, ◌++◌, length, map, take, drop, refl, sym, ap, subst, ◌∙◌, arith, length-append}
 use Rattle.std.specs.List.{All, AllZip}
+use Rattle.std.proofs.lemmas.List.{length-map}
 use Rattle.vlsi_base.specs.declared.name.Name.{Name}
-use Rattle.bool_expr.specs.Expression.{Expression, size_of, IsOver}
+use Rattle.bool_expr.specs.Expression.{Expression, IsOver}
 use Rattle.bool_expr.specs.View.{view}
 use Rattle.machine_core.specs.declared.equation.Equation.{Equation as EquationParts}
 use Rattle.machine_core.specs.declared.equation.Register.{Register as RegisterParts}
@@ -17,6 +18,7 @@ use Rattle.boom_muxes.specs.Building.{numbers_behind}
 use Rattle.boom_muxes.specs.Anew.{IsAnew}
 use Rattle.boom_muxes.proofs.Numbered.{over_more, all_names}
 use Rattle.boom_muxes.proofs.Parts.{names_parts}
+use Rattle.boom_muxes.proofs.Anew.{length-new_names}
 use Rattle.boom_check.specs.declared.assembling.Parts.{Parts}
 use Rattle.boom_check.specs.Kept.{behind_new, IsGivenOrSmaller}
 use Rattle.boom_check.specs.Assembling.{IsSaid, IsSaidEquation, IsSaidRegister, ArePartsOf, IsAssembled}
@@ -85,6 +87,32 @@ parts_of m checked p held count total numbers given es made kept rs at long is n
     same_names : (xs : List EquationParts) → map (λ (e : Equation). e.name) (map equation_view xs) ≡ map (λ (e : EquationParts). e.name) xs
     same_names [] = refl
     same_names (x ∷ xs) = ap (λ (l : List Name). x.name ∷ l) (same_names xs)
+
+-- ---- how many there are
+
+zip_length : {A B : Type 0} (R : A → B → Type 0) (xs : List A) (ys : List B) → AllZip R xs ys → length ys ≡ length xs
+zip_length R [] [] h = refl
+zip_length R [] (y ∷ ys) h = elim h [ ]
+zip_length R (x ∷ xs) [] h = elim h [ ]
+zip_length R (x ∷ xs) (y ∷ ys) h = ap suc (zip_length R xs ys h.1)
+
+-- the names
+pub names_long : (m : Machine) → IsChecked m → (p : Parts) (w : ArePartsOf m p) → length p.vars.items ≡ length m.vars + w.count
+names_long m checked p w =
+    let n = ap length w.vars in
+    let x = length-append (held_names m) (new_names p.text w.count ++ equation_names m) in
+    let y = length-append (new_names p.text w.count) (equation_names m) in
+    let z = length-new_names p.text w.count in
+    let t = ap length checked.ordered.vars ∙ length-append (held_names m) (equation_names m) in
+    omega (arith, n, x, y, z, t)
+
+-- the equations
+pub equations_long : (m : Machine) (p : Parts) (w : ArePartsOf m p) → length p.equations.items ≡ w.count + length m.equations
+equations_long m p w =
+    let viewed = sym (length-map p.equations.items equation_view) ∙ ap length w.equations ∙ length-append w.made w.kept in
+    let new = sym (length-map w.made (λ (e : Equation). e.name)) ∙ ap length w.new ∙ length-new_names p.text w.count in
+    let kept = zip_length (λ (e f : Equation). (f.name ≡ e.name) × IsGivenOrSmaller (behind_new (held_count m) w.count e.expr) f.expr) m.equations w.kept w.said in
+    omega (arith, viewed, new, kept)
 
 -- ---- the machine
 

@@ -120,7 +120,7 @@ fn put_behind(out: &mut Vec<Equation>, more: Vec<Equation>) -> Result<(), AllocE
 }
 
 // The parts of the machine, with no more new names than the given machine weighs.
-fn parts(alloc: Global, m: &Machine, proposal: &Proposal) -> Result<Parts, AllocError>
+fn put_together(alloc: Global, m: &Machine, proposal: &Proposal) -> Result<Parts, AllocError>
     requires checked { IsChecked m.now }
     requires few { length m.now.vars + length m.now.ports + size_of_machine m.now < 2 ^ 32 - 1 }
     requires inner { length proposal.now.inner.items ≤ size_of_machine m.now }
@@ -183,6 +183,6 @@ pub fn assembled(
     if proposal.inner.len() as u64 > machine_size(m) {
         return Ok(None);
     }
-    let parts = parts(alloc, m, proposal)?;
+    let parts = put_together(alloc, m, proposal)?;
     checked_machine(alloc, m, parts)
 }

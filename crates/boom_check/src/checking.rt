@@ -77,6 +77,9 @@ pub fn may_replace(
     requires assembled { IsAssembled m.now o.now }
     ensures { IfOk result (λ may. may ≡ true → IsAcceptable m.now most o.now) }
 {
+    // Machines are checked.
+    let _ = m.name();
+    let _ = o.name();
     if machine_size(o) > machine_size(m) || inner_weight(o) > most {
         return Ok(false);
     }

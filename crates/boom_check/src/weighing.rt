@@ -7,12 +7,22 @@ use bool_expr::size;
 use machine_core::{Equation, Machine};
 use vlsi_base::{Dir, Name, Port};
 
+// Whether a port is an output of this name.
+fn is_named_output(port: &Port, name: &Name) -> bool
+    ensures { result ≡ true → (port.now.dir ≡ Dir.Out) × (port.now.name ≡ name.now) }
+{
+    match port.dir {
+        Dir::Out => port.name.is_same(name),
+        Dir::In => false,
+    }
+}
+
 // Whether an output among these ports, which stand in the order of names, has this name.
 fn is_output(ports: &[Port], name: &Name) -> bool
     ensures { result ≡ true → is_shown ports.now name.now ≡ true }
 {
     match ports.binary_search_by(|port| port.name.compare(name)) {
-        Ok(place) => ports[place].dir == Dir::Out && ports[place].name.is_same(name),
+        Ok(place) => is_named_output(&ports[place], name),
         Err(_) => false,
     }
 }

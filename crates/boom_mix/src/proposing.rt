@@ -130,6 +130,14 @@ fn mark_literal(marks: &mut [bool], held: usize, literal: Literal) {
     }
 }
 
+fn mark_literals(marks: &mut [bool], held: usize, literals: &[Option<Literal>]) {
+    for literal in literals {
+        if let Some(literal) = *literal {
+            mark_literal(marks, held, literal);
+        }
+    }
+}
+
 // The choices that literals need.
 fn used_muxes(
     alloc: Global,
@@ -139,9 +147,8 @@ fn used_muxes(
     loads: &[Option<Literal>],
 ) -> Result<Vec<bool>, AllocError> {
     let mut used = vec![in alloc; false; muxes.len()]?;
-    for literal in equations.iter().chain(loads.iter()).flatten() {
-        mark_literal(&mut used, held, *literal);
-    }
+    mark_literals(&mut used, held, equations);
+    mark_literals(&mut used, held, loads);
     for (k, mux) in muxes.iter().enumerate().rev() {
         if is_marked(&used, k) {
             mark_literal(&mut used, held, mux.low);

@@ -33,7 +33,7 @@ fn neither(graph: &AndGraph, signal: Signal) -> Option<(Signal, Signal)> {
 }
 
 /// What a node's gate is; `None` for the constant and an input.
-pub(crate) fn cell(graph: &AndGraph, number: u32) -> Option<Cell> {
+pub(crate) fn cell_of(graph: &AndGraph, number: u32) -> Option<Cell> {
     let gate = graph.gate(number)?;
     let plain = Cell::And(gate.left, gate.right);
     let Some((a, b)) = neither(graph, gate.left) else {
@@ -85,7 +85,7 @@ impl CellReads {
             if !counted.read(signal) {
                 continue;
             }
-            match cell(graph, signal.number()) {
+            match cell_of(graph, signal.number()) {
                 Some(Cell::And(left, right)) => {
                     waiting.push(left)?;
                     waiting.push(right)?;

@@ -88,8 +88,9 @@ fn proposal_of(
             Place::Load(k) => put(&mut loads, k, e),
         }
     }
+    let Expressed { inner, .. } = expressed;
     Ok(Proposal {
-        inner: expressed.inner,
+        inner,
         equations,
         loads,
     })
@@ -97,11 +98,7 @@ fn proposal_of(
 
 /// What a machine could say after rewriting the graph of another one that does the same, which has its equations as the last ones.
 /// Takes memory for a few graphs.
-pub fn rewritten(
-    alloc: Global,
-    m: &Machine,
-    source: &Machine,
-) -> Result<Proposal, AllocError> {
+pub fn rewritten(alloc: Global, m: &Machine, source: &Machine) -> Result<Proposal, AllocError> {
     let (rooted, targets) = rooted_graph(alloc, m, source)?;
     let smaller = shrunk(alloc, &rooted)?;
     proposal_of(alloc, m, &smaller, &targets)

@@ -1,6 +1,6 @@
 // Cells as expressions.
 
-use crate::cells::{Cell, CellReads, cell};
+use crate::cells::{Cell, CellReads, cell_of};
 use and_graph::{AndGraph, Signal};
 use bool_expr::{Expr, Gate};
 use std::alloc::{AllocError, Global};
@@ -32,11 +32,7 @@ fn inverse(alloc: Global, e: Expr) -> Result<Expr, AllocError> {
 }
 
 fn inverse_if(alloc: Global, e: Expr, is_inverse: bool) -> Result<Expr, AllocError> {
-    if is_inverse {
-        inverse(alloc, e)
-    } else {
-        Ok(e)
-    }
+    if is_inverse { inverse(alloc, e) } else { Ok(e) }
 }
 
 fn pair(alloc: Global, gate: Gate, left: Expr, right: Expr) -> Result<Expr, AllocError> {
@@ -46,12 +42,7 @@ fn pair(alloc: Global, gate: Gate, left: Expr, right: Expr) -> Result<Expr, Allo
 }
 
 // Both where both are 1, or the inverse of that; of two inverses neither, or one of the two.
-fn and_pair(
-    alloc: Global,
-    left: Expr,
-    right: Expr,
-    is_inverse: bool,
-) -> Result<Expr, AllocError> {
+fn and_pair(alloc: Global, left: Expr, right: Expr, is_inverse: bool) -> Result<Expr, AllocError> {
     let is_neither = matches!(&left, Expr::Not(_)) && matches!(&right, Expr::Not(_));
     if is_neither {
         let gate = if is_inverse { Gate::Or } else { Gate::Nor };
@@ -139,7 +130,7 @@ impl Expressed {
         number: u32,
     ) -> Result<(), AllocError> {
         let read = reads.of(number);
-        let shape = match cell(graph, number) {
+        let shape = match cell_of(graph, number) {
             Some(cell) if read.plain.saturating_add(read.inverse) == 1 => {
                 Shape::Once(self.cell_expr(alloc, cell, read.inverse == 1)?)
             }

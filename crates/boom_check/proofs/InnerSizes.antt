@@ -1,6 +1,6 @@
 -- Outputs found among ports, and what is left of the equations.
-use Rattle.std.proofs.Common.{◌≡◌, ℕ, zero, suc, ◌+◌, ◌-◌, ◌^◌, ◌<◌, ◌≤◌, Bool, true, false, not, ◌||◌, List, [], ◌∷◌, ◌++◌, length, map, take, get_or, filter, min, refl, sym, ap, subst, ◌∙◌, arith, if◌then◌else◌}
-use Rattle.std.specs.List.{list_any, sum_by}
+use Rattle.std.proofs.Common.{◌≡◌, ℕ, zero, suc, ◌+◌, ◌-◌, ◌^◌, ◌<◌, ◌≤◌, Bool, true, false, not, ◌||◌, List, [], ◌∷◌, length, map, take, get_or, filter, min, refl, sym, ap, subst, ◌∙◌, arith, if◌then◌else◌}
+use Rattle.std.specs.List.{list_any}
 use Rattle.vlsi_base.specs.declared.name.Name.{Name}
 use Rattle.vlsi_base.specs.declared.name.Port.{Port}
 use Rattle.vlsi_base.specs.declared.name.Dir.{Dir}
@@ -8,7 +8,7 @@ use Rattle.vlsi_base.specs.declared.name.Dir.TheVariants.{Out}
 use Rattle.bool_expr.specs.Expression.{size_of}
 use Rattle.machine_core.specs.declared.equation.Equation.{Equation as EquationParts}
 use Rattle.machine_core.specs.Named.{is_same_name}
-use Rattle.machine_core.specs.Machine.{Machine, Equation, is_input, names_of}
+use Rattle.machine_core.specs.Machine.{Equation, is_input, names_of}
 use Rattle.machine_core.specs.View.{equation_view}
 use Rattle.machine_core.proofs.Names.{same_name-itself}
 use Rattle.boom_check.specs.Kept.{is_shown, hidden_size}
