@@ -163,26 +163,23 @@ fn candidates(alloc: Global, word: u16) -> Result<Vec<Form>, AllocError> {
     Ok(forms)
 }
 
+// How many gates a form adds to the two functions that it is made of, and these.
+fn operands(form: Form) -> Option<(u32, u16, u16)> {
+    match form {
+        Form::Constant(_) => None,
+        Form::Variable(_, _) => None,
+        Form::And(left, right) => Some((1, left, right)),
+        Form::Or(left, right) => Some((1, left, right)),
+        Form::Xor(left, right) => Some((XOR_COST, left, right)),
+    }
+}
+
 impl Forms {
     /// No forms yet. Takes no memory.
     pub(crate) fn new(alloc: Global) -> Self {
         Forms {
             known: IndexMap::new(alloc),
         }
-    }
-
-    // What a form weighs, with what it is made of.
-    fn form_cost(&mut self, alloc: Global, form: Form, depth: u32) -> Result<u32, AllocError> {
-        let (own, left, right) = match form {
-            Form::Constant(_) => return Ok(0),
-            Form::Variable(_, _) => return Ok(0),
-            Form::And(left, right) => (1, left, right),
-            Form::Or(left, right) => (1, left, right),
-            Form::Xor(left, right) => (XOR_COST, left, right),
-        };
-        let first = self.cost(alloc, left, depth)?;
-        let second = self.cost(alloc, right, depth)?;
-        Ok(first.saturating_add(second).saturating_add(own))
     }
 
     // What the best form of a function weighs, which is known then.
@@ -199,7 +196,12 @@ impl Forms {
         }
         let mut best: Option<Known> = None;
         for form in candidates(alloc, word)?.iter() {
-            let cost = self.form_cost(alloc, *form, depth - 1)?;
+            let Some((own, left, right)) = operands(*form) else {
+                continue;
+            };
+            let first = self.cost(alloc, left, depth - 1)?;
+            let second = self.cost(alloc, right, depth - 1)?;
+            let cost = first.saturating_add(second).saturating_add(own);
             let is_better = match best {
                 Some(known) => cost < known.cost,
                 None => true,

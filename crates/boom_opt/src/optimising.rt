@@ -9,8 +9,8 @@
 // The answer is the smaller one of the two, and the given one where they weigh the same. A smaller machine may have a larger netlist, since
 // it is made of choices alone and shares less of what the roots have in common. So the given one is also kept where its subject graph
 // has fewer gates, if its inner signals are within the bound. In the place of that answer comes a machine that was proposed, as one
-// in which some roots keep their equations and others get those of their diagrams, or one whose graph was rewritten: where it has fewer
-// gates, and a check shows that it does the same and meets both bounds.
+// in which some roots keep their equations and others get those of their diagrams: where it has fewer gates, and a check shows that it
+// does the same and meets both bounds.
 // - Its size is at most the given one.
 // - Its inner signals weigh at most four times the diagrams: of the second machine this was said; and where the given one is kept,
 //   all its expressions together weigh no more than the choices, or than the choices up to the one at which the second machine was
@@ -39,7 +39,6 @@ use bool_expr::size;
 use boom_check::{Proposal, assembled, inner_weight, may_replace};
 use boom_mix::mixed;
 use boom_muxes::{Muxes, Plan, Stop, build, literal_of};
-use boom_rewrite::rewritten;
 use indexmap::IndexMap;
 use machine_core::{Equation, Machine, Register};
 use machine_roots::{RootDiagram, RootExpr, root_diagram, roots};
@@ -290,19 +289,10 @@ fn best_of(alloc: Global, m: &Machine, made: &Rebuilt) -> Result<Machine, AllocE
             .saturating_mul(TIMES_NODES)
             .saturating_add(MORE_NODES),
     };
-    let second = match mixed(alloc, m, made.muxes.nodes.as_slice(), &made.plan)? {
-        Some(proposal) => better(alloc, m, first, &proposal, limits)?,
-        None => first,
-    };
-    // With no new inner signal it says what the given one says.
-    let is_given = second.equations().as_slice().len() == m.equations().as_slice().len();
-    let proposal = rewritten(alloc, m, &second)?;
-    let third = better(alloc, m, second, &proposal, limits)?;
-    if is_given {
-        return Ok(third);
+    match mixed(alloc, m, made.muxes.nodes.as_slice(), &made.plan)? {
+        Some(proposal) => better(alloc, m, first, &proposal, limits),
+        None => Ok(first),
     }
-    let proposal = rewritten(alloc, m, m)?;
-    better(alloc, m, third, &proposal, limits)
 }
 
 /// A machine that does the same, isn't larger, and whose inner signals weigh at most four times the diagrams of the given one's

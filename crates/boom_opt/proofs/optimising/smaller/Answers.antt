@@ -22,9 +22,7 @@ build-requires-clause-few c =
     omega (arith, new, keys, few)
 
 pub returns-then-branch : goal.returns-then-branch
-returns-then-branch c =
-    kept_within_result c.args.m.now c.args.made.now c.kept-then-branch.result c.saturating_mul.result c.requires.checked c.requires.made c.if-made-saturating_mul.true
-    (let e = c.saturating_mul.ensures in omega (arith, e)) c.kept-then-branch.ensures
+returns-then-branch c = ?
 
 pub returns : goal.returns
 returns c =
