@@ -1,8 +1,7 @@
 -- Both bounds, by sums.
-use Rattle.std.proofs.Common.{◌≡◌, ℕ, ◌+◌, ◌*◌, ◌≤◌, Bool, true, false, List, [], ◌∷◌, ◌++◌, length, refl, ◌∙◌, arith, if◌then◌else◌}
+use Rattle.std.proofs.Common.{◌≡◌, ℕ, ◌+◌, ◌*◌, ◌≤◌, List, [], ◌∷◌, length, refl, arith}
 use Rattle.std.specs.List.{AllZip, sum_by}
-use Rattle.bool_expr.specs.Expression.{size_of}
-use Rattle.machine_core.specs.Machine.{Machine, Equation, outputs}
+use Rattle.machine_core.specs.Machine.{Machine, outputs}
 use Rattle.machine_core.specs.Size.{machine_size}
 use Rattle.boom_check.specs.Kept.{inner_size}
 use Rattle.boom_check.proofs.Sums.{sum_by-cons, inner_less}

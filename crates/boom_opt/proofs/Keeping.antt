@@ -1,8 +1,8 @@
 -- What is said in place of an expression is the one that was given, or strictly smaller.
-use Rattle.std.proofs.Common.{◌≡◌, inl, inr, ℕ, zero, suc, ◌+◌, ◌<◌, ◌≤◌, Bool, true, false, List, [], ◌∷◌, length, Option, None, Some, refl, ap, ◌∙◌, arith, if◌then◌else◌}
+use Rattle.std.proofs.Common.{◌≡◌, inl, inr, ℕ, zero, suc, ◌+◌, ◌<◌, ◌≤◌, Bool, true, false, List, [], ◌∷◌, length, Option, None, Some, refl, arith, if◌then◌else◌}
 use Rattle.std.specs.Prelude.{◌*◌, nat_lt, slice_get}
 use Rattle.std.specs.List.{AllZip}
-use Rattle.bool_expr.specs.Expression.{Expression, constant, variable, inverse, pair, choice, size_of, IsOver}
+use Rattle.bool_expr.specs.Expression.{Expression, size_of, IsOver}
 use Rattle.bool_expr.specs.Renumbering.{renumbered}
 use Rattle.machine_core.specs.Machine.{Equation, Register}
 use Rattle.machine_core.specs.Order.{EachReadsBelow}

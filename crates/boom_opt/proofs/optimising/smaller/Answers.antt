@@ -22,7 +22,10 @@ build-requires-clause-few c =
     omega (arith, new, keys, few)
 
 pub returns-then-branch : goal.returns-then-branch
-returns-then-branch c = ?
+returns-then-branch c =
+    let few = c.requires.few in
+    kept_within_result c.args.m.now c.kept-then-branch.result c.inner_weight.result c.most_inner.result c.requires.checked (omega (arith, few)) c.inner_weight.ensures
+    c.if-inner_weight-most_inner.true c.most_inner.ensures c.kept-then-branch.ensures
 
 pub returns : goal.returns
 returns c =
