@@ -1,14 +1,18 @@
 #!/usr/bin/env bash
-# Measures `alliance boog` on circuits of 1,000 to 16,000 nands over the row library cells/, and beside it, where they are
-# installed, abc (`strash; map -a` with inverter, nand and constants, which optimises little) and yosys (`synth` and `abc` with
-# nands, which optimises).
+# Measures the netlists of `alliance boog` over the row library cells/: on the examples, on circuits as courses have them (adders,
+# multipliers of 4 to 16 bits, ALUs of 8 and 16, decoders, encoders, filters, counters, state machines), and on circuits of 1,000 to 16,000
+# nands. Beside them stand abc over the same cells with columns as areas (`ifraig; scorr; dc2; &nf`, what yosys gives it), and before
+# abc yosys' own `synth`, where they are installed.
 #
 # Usage: bench/boog.sh PROGRAM [SECONDS]      (a run that takes longer than SECONDS, 300 at first, is cut off)
 #
-# GATES in the environment is another list of numbers, which rises.
+# GATES in the environment is another list of numbers, which rises; COURSES another list of SCRIPT KIND NUMBER, a circuit a line; an empty
+# one leaves its sources out. NODES is another budget of diagrams than 4,000,000.
 #
-# Columns: gates, bytes of the source, seconds and megabytes of boog, by how much its seconds grow when the gates double, the
-# cells, bytes of the netlist; seconds and cells of abc and of yosys.
+# Columns: the source; seconds, megabytes, cells and columns of 500 of boog of the source; the same of `boom` and boog of what that writes,
+# which is the netlist that flow places, but for buffers and drives, where cells and columns are `-` if a diagram is over the budget (flow refuses such a
+# source); seconds, cells and columns of abc; the columns of boog, and of the netlist of flow, for each column of abc. For the nands
+# besides by how much boog's seconds grow when the gates double. The last line has the geometric mean and the greatest of the ratios.
 set -eu
 
 if [ $# -lt 1 ] || [ ! -x "$1" ] || [ ! -x /usr/bin/time ]; then
@@ -22,43 +26,127 @@ here=$(dirname "$(realpath "$0")")
 work=$(mktemp -d)
 trap 'rm -rf "$work"' EXIT
 cp -r "$here/../cells" "$work/lib"
+cp "$here"/../examples/*/*.vbe "$here"/../examples/*/*.fsm "$work"
 yosys=$(command -v yosys || true)
 abc=$(command -v berkeley-abc || command -v yosys-abc || true)
-[ -n "$yosys" ] || echo "yosys isn't installed: its columns are left out"
-[ -n "$abc" ] || echo "berkeley-abc isn't installed: its columns are left out"
+[ -n "$yosys" ] || echo "skipped: yosys isn't installed, so abc has the sources as they are"
+[ -n "$abc" ] || echo "skipped: berkeley-abc isn't installed, so its columns are empty"
 cd "$work"
-cp "$here/gates.genlib" .
+python3 "$here/areas.py" --genlib lib >cells.genlib
 
-# The cells that were printed: of abc the sum of what stands behind `lat =` and `nd =`; of yosys the last `Number of cells`, or
-# the count before `cells`, which newer ones print.
-abc_cells() {
-  awk '{ gsub("=", " = ") } / nd /{ for (k = 1; k < NF; k++) if ($k == "nd" || $k == "lat") n += $(k + 2) } END { print n ? n : "-" }' "$1"
+row='%-16s  %7s %5s %6s %7s  %7s %5s %6s %7s  %7s %6s %7s  %6s %6s %6s\n'
+ratios=ratios.txt
+: >"$ratios"
+
+# areas FILE: cells and columns of a netlist, or - -.
+areas() {
+  if [ -f "$1" ]; then python3 "$here/areas.py" "$1" lib; else echo "- -"; fi
 }
 
-yosys_cells() {
-  awk '/Number of cells:/ { n = $4 } $2 == "cells" { n = $1 } END { print n ? n : "-" }' "$1"
+# ratio COLUMNS COLUMNS_OF_ABC
+ratio() {
+  awk -v a="$1" -v b="$2" 'BEGIN { if (a + 0 > 0 && b + 0 > 0) printf "%.3f", a / b; else printf "-" }'
 }
 
-row='%6s %8s  %8s %5s  %6s %6s %9s   %8s %6s   %8s %6s\n'
-printf "$row" gates bytes seconds MB gates*2 cells netlist abc cells yosys cells
+added() {
+  awk -v a="$1" -v b="$2" 'BEGIN { if (a == "-" || b == "-") printf "-"; else printf "%.2f", a + b }'
+}
+
+# best_of_abc: maps c.blif, and what yosys makes of it, and prints seconds, cells and columns of the narrower netlist.
+best_of_abc() {
+  local script="strash; ifraig; scorr; dc2; strash; &get -n; &nf; &put" source took other cells columns best=- best_cells=- best_took=-
+  for source in c y; do
+    rm -f mapped.blif
+    other=0
+    if [ "$source" = y ]; then
+      [ -n "$yosys" ] || break
+      read -r other _ < <(measured said "$yosys" -q -p "read_blif c.blif; setattr -unset init; synth; dfflegalize -cell \$_DFF_P_ x; abc -g AND; opt_clean; write_blif y.blif")
+      [ "$other" != - ] || continue
+    fi
+    read -r took _ < <(measured said "$abc" -c "read_library cells.genlib; read_blif $source.blif; zero; $script; write_blif mapped.blif")
+    read -r cells columns < <(areas mapped.blif)
+    if [ "$columns" != - ] && { [ "$best" = - ] || [ "$columns" -lt "$best" ]; }; then
+      best=$columns best_cells=$cells best_took=$(added "$took" "$other")
+    fi
+  done
+  echo "$best_took $best_cells $best"
+}
+
 took_before=- gates_before=0
-for gates in ${GATES:-1000 2000 4000 8000 16000}; do
-  python3 "$here/asimut_inputs.py" "$gates" 1 "$work" --nands
-  rm -f r.vst
+# netlists NAME [GATES]: maps c.vbe in each way and prints its row.
+netlists() {
+  local took memory cells columns smaller smaller_memory again again_memory flow_took flow_cells=- flow_columns=-
+  local abc_took=- abc_cells=- abc_columns=- one two grown=-
+  rm -f r.vst m.vbe f.vst c.blif y.blif mapped.blif
   read -r took memory < <(measured printed "$program" boog c.vbe -l lib -o r)
-  cells=$(sed -n 's/^cells //p' printed) bytes=-
-  [ ! -f r.vst ] || bytes=$(wc -c <r.vst)
-  abc_took=- abc_n=- yosys_took=- yosys_n=-
-  python3 "$here/../share/netlist" --blif c.vbe >c.blif
-  if [ -n "$abc" ]; then
-    read -r abc_took _ < <(measured said "$abc" -c "read_library gates.genlib; read_blif c.blif; strash; map -a; print_stats")
-    abc_n=$(abc_cells said)
+  read -r cells columns < <(areas r.vst)
+  read -r smaller smaller_memory < <(measured printed "$program" boom c.vbe -o m --nodes "${NODES:-4000000}")
+  again=- again_memory=-
+  [ ! -f m.vbe ] || read -r again again_memory < <(measured printed "$program" boog m.vbe -l lib -o f)
+  [ ! -f f.vst ] || read -r flow_cells flow_columns < <(areas f.vst)
+  flow_took=$(added "$smaller" "$again")
+  if [ -n "$abc" ] && python3 "$here/../share/netlist" --blif c.vbe >c.blif; then
+    read -r abc_took abc_cells abc_columns < <(best_of_abc)
   fi
-  if [ -n "$yosys" ]; then
-    read -r yosys_took _ < <(measured said "$yosys" -p "read_blif c.blif; synth -top c; abc -g NAND; opt_clean; stat")
-    yosys_n=$(yosys_cells said)
+  one=$(ratio "$columns" "$abc_columns") two=$(ratio "$flow_columns" "$abc_columns")
+  echo "$one $two" >>"$ratios"
+  if [ -n "${2:-}" ]; then
+    grown=$(growth "$took_before" "$gates_before" "$took" "$2")
+    took_before=$took gates_before=$2
   fi
-  printf "$row" "$gates" "$(wc -c <c.vbe)" "$took" "$(megabytes "$memory")" "$(growth "$took_before" "$gates_before" "$took" "$gates")" \
-    "${cells:--}" "$bytes" "$abc_took" "$abc_n" "$yosys_took" "$yosys_n"
-  took_before=$took gates_before=$gates
+  printf "$row" "$1" "$took" "$(megabytes "$memory")" "$cells" "$columns" "$flow_took" "$(megabytes "$smaller_memory")" "$flow_cells" "$flow_columns" \
+    "$abc_took" "$abc_cells" "$abc_columns" "$one" "$two" "$grown"
+}
+
+printf "$row" '' boog '' '' '' flow '' '' '' abc '' '' boog flow ''
+printf "$row" source seconds MB cells columns seconds MB cells columns seconds cells columns /abc /abc 'gates*2'
+for path in *.vbe *.fsm; do
+  name=${path%.*}
+  if [ "${path##*.}" = fsm ]; then
+    "$program" syf "$path" -o c >printed
+  else
+    cp "$path" c.vbe
+  fi
+  netlists "$name"
 done
+while read -r script kind number; do
+  [ -n "$kind" ] || continue
+  if [ "$kind" = machine ]; then
+    python3 "$here/$script" "$kind" "$number" >s.fsm
+    "$program" syf s.fsm -o c >printed
+  else
+    python3 "$here/$script" "$kind" "$number" >c.vbe
+  fi
+  netlists "$kind $number"
+done <<<"${COURSES-arithmetic.py adder 8
+arithmetic.py adder 16
+arithmetic.py adder 32
+arithmetic.py multiplier 4
+arithmetic.py multiplier 6
+arithmetic.py multiplier 8
+arithmetic.py multiplier 10
+arithmetic.py multiplier 12
+arithmetic.py multiplier 16
+course_circuits.py alu 8
+course_circuits.py alu 16
+course_circuits.py decoder 3
+course_circuits.py decoder 4
+course_circuits.py decoder 5
+course_circuits.py encoder 8
+course_circuits.py encoder 16
+course_circuits.py filter 4
+course_circuits.py filter 8
+course_circuits.py counter 8
+course_circuits.py counter 16
+course_circuits.py machine 8
+course_circuits.py machine 16}"
+for gates in ${GATES-1000 2000 4000 8000 16000}; do
+  python3 "$here/asimut_inputs.py" "$gates" 1 "$work" --nands
+  netlists "$gates nands" "$gates"
+done
+awk '{
+  for (k = 1; k <= 2; k++) if ($k != "-") { n[k]++; logs[k] += log($k); if ($k > top[k]) top[k] = $k }
+} END {
+  for (k = 1; k <= 2; k++) if (n[k]) printf "%s: %.3f in the mean and %.3f at the most over %d circuits, for each column of abc\n", \
+    k == 1 ? "boog" : "flow", exp(logs[k] / n[k]), top[k], n[k]
+}' "$ratios"

@@ -9,6 +9,7 @@ pub mod Planned
 pub mod Turns
 pub mod Fresh
 pub mod Tabling
+pub mod Anew
 pub mod Sound
 pub mod Same
 pub mod Led

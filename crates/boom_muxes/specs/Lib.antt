@@ -3,3 +3,4 @@ pub mod Rebuilding
 pub mod Planning
 pub mod Names
 pub mod Building
+pub mod Anew

@@ -25,8 +25,8 @@ fn number_behind(held: u32, count: u32, k: u32) -> u32
     if k < held { k } else { k + count }
 }
 
-/// The numbers that names have, where so many new ones stand behind the first ones, which are held.
-fn numbers(alloc: Global, held: u32, count: u32, total: u32) -> Result<Vec<u32>, AllocError>
+/// The numbers that names have, where so many new ones stand behind the first ones, which are held. Takes memory for them.
+pub fn numbers(alloc: Global, held: u32, count: u32, total: u32) -> Result<Vec<u32>, AllocError>
     requires held { held ≤ total }
     requires few { total + count < 2 ^ 32 }
     ensures { IfOk result (λ v. v.items ≡ numbers_behind held count total) }
@@ -38,7 +38,8 @@ fn numbers(alloc: Global, held: u32, count: u32, total: u32) -> Result<Vec<u32>,
     Ok(numbers)
 }
 
-fn bit_name(alloc: Global, text: &Text, k: u32) -> Result<Name, AllocError>
+/// Bit k of a name. Takes memory for its text.
+pub fn bit_name(alloc: Global, text: &Text, k: u32) -> Result<Name, AllocError>
     ensures { IfOk result (λ name. name ≡ record { text = text.now; bit = Some k }) }
 {
     Ok(Name {
@@ -57,8 +58,8 @@ fn push_names(alloc: Global, out: &mut Vec<Name>, names: &[Name]) -> Result<(), 
     Ok(())
 }
 
-/// All names: of inputs and registers, so many bits of a new name, and of the equations.
-fn all_names(
+/// All names: of inputs and registers, so many bits of a new name, and of the equations. Takes memory for them.
+pub fn all_names(
     alloc: Global,
     given: &[Name],
     held: usize,
@@ -163,7 +164,8 @@ fn registers(
     Ok(registers)
 }
 
-fn copied(alloc: Global, name: Option<&Name>) -> Result<Option<Name>, AllocError>
+/// A copy of a clock's name, where there is one. Takes memory for it.
+pub fn copied(alloc: Global, name: Option<&Name>) -> Result<Option<Name>, AllocError>
     ensures { IfOk result (λ made. made ≡ option_copied name.entry) }
 {
     match name {
@@ -175,7 +177,8 @@ fn copied(alloc: Global, name: Option<&Name>) -> Result<Option<Name>, AllocError
     }
 }
 
-fn copied_ports(alloc: Global, ports: &[Port]) -> Result<Vec<Port>, AllocError>
+/// Copies of ports. Takes memory for them.
+pub fn copied_ports(alloc: Global, ports: &[Port]) -> Result<Vec<Port>, AllocError>
     ensures { IfOk result (λ made. made.items ≡ ports.now) }
 {
     let mut made = Vec::new(alloc);

@@ -10,8 +10,9 @@ mod names;
 mod plan;
 mod rebuild;
 
-pub use building::build;
+pub use building::{all_names, bit_name, build, copied, copied_ports, numbers};
 pub use mux::Mux;
 pub use muxes::{Muxes, Stop};
+pub use names::new_text;
 pub use plan::Plan;
 pub use rebuild::literal_of;

@@ -22,7 +22,7 @@ fn texts(alloc: Global, ports: &[Port], names: &[Name]) -> Result<Vec<Text>, All
 }
 
 /// An `n` and a number, which isn't the text of any of these names. Takes memory for the texts of all names.
-pub(crate) fn new_text(alloc: Global, ports: &[Port], names: &[Name]) -> Result<Text, AllocError>
+pub fn new_text(alloc: Global, ports: &[Port], names: &[Name]) -> Result<Text, AllocError>
     requires { length ports.now + length names.now < 2 ^ 32 - 1 }
     ensures { IfOk result (λ text. IsFreshText (names_of ports.now ++ names.now) text) }
 {

@@ -29,7 +29,8 @@ use Rattle.boom_muxes.proofs.Counted.{known_within, known_beyond}
 use Rattle.boom_muxes.proofs.Dags.{dag_of}
 use Rattle.boom_muxes.proofs.Finding.{grown_none}
 use Rattle.boom_muxes.proofs.Planned.{root_value}
-use Rattle.boom_opt.proofs.Remaking.{zip_push, greatest_more, greatest_same, sum_push, weight_on, planned_next}
+use Rattle.boom_check.proofs.Lists.{zip_push}
+use Rattle.boom_opt.proofs.Remaking.{greatest_more, greatest_same, sum_push, weight_on, planned_next}
 
 -- ---- the nodes of a root's diagram at which something was found
 

@@ -1,5 +1,5 @@
 -- From the second machine of all roots to the answer.
-use Rattle.std.proofs.Common.{◌≡◌, ◌⊎◌, inl, inr, ℕ, zero, suc, ◌+◌, ◌*◌, ◌<◌, ◌≤◌, true, false, List, [], ◌∷◌, length, take, drop, Option, None, Some, slice_get, refl, sym, ap, subst, ◌∙◌, arith}
+use Rattle.std.proofs.Common.{◌≡◌, ◌⊎◌, inl, inr, ℕ, zero, suc, ◌+◌, ◌-◌, ◌*◌, ◌^◌, ◌<◌, ◌≤◌, min, true, false, List, [], ◌∷◌, length, take, drop, Option, None, Some, slice_get, refl, sym, ap, subst, ◌∙◌, arith}
 use Rattle.std.specs.Prelude.{replicate, sum, Result, Ok, Err, IfOk}
 use Rattle.std.specs.List.{All, AllZip, slice_index_or}
 use Rattle.machine_core.specs.Machine.{Machine, Register, outputs}
@@ -12,7 +12,9 @@ use Rattle.boom_literal.specs.declared.literal.Literal.TheVariants.{Constant}
 use Rattle.boom_muxes.specs.declared.mux.Mux.{Mux}
 use Rattle.boom_opt.specs.declared.optimising.Rebuilt.{Rebuilt}
 use Rattle.boom_muxes.specs.Muxes.{IsTable, IsLiteralBelow, EachIsBelow, muxes_weight}
-use Rattle.boom_opt.specs.Optimised.{IsOptimised}
+use Rattle.boom_check.specs.Kept.{inner_size, IsAcceptable}
+use Rattle.boom_opt.specs.Optimised.{IsOptimised, IsInnerBound}
+use Rattle.boom_opt.proofs.Bounds.{inner_within, size_parts, inner_when_kept}
 use Rattle.boom_muxes.specs.Building.{MayBeBuilt, IsBuilt}
 use Rattle.boom_opt.specs.Rebuilt.{expressions_size, IsWeight, IsShown, SaysRoot, IsPlanOf, IsRebuilt}
 use Rattle.boom_opt.proofs.Optimal.{optimised_same, optimised_built, drop_all}
@@ -128,9 +130,9 @@ smaller m b o checked h small less built =
     optimised_built m b.muxes b.plan (may_be_built m b checked h small) o built h.held (h.planned small) h.dags h.each_dag h.table h.weight (omega (arith, less, g))
 
 pub kept_small : (m : Machine) (b : Rebuilt) (o : Machine) → IsChecked m → IsRebuilt m (roots m) b → (b.is_large ≡ true) ⊎ (b.muxes.given ≤ b.muxes.weight) → IsBuilt m [] None o → IsOptimised m o
-kept_small m b o checked h (inl large) built = optimised_same m h.dags (may_be_kept m checked) o built h.each_dag (h.large large)
+kept_small m b o checked h (inl large) built = optimised_same m h.dags (may_be_kept m checked) o built h.each_dag (inner_when_kept m (4 * sum h.dags) (h.large large))
 kept_small m b o checked h (inr more) built =
-    optimised_same m h.dags (may_be_kept m checked) o built h.each_dag (by h.table.less)
+    optimised_same m h.dags (may_be_kept m checked) o built h.each_dag (inner_when_kept m (4 * sum h.dags) (by h.table.less))
   where
     by : (b.muxes.weight < b.muxes.given) ⊎ (b.muxes.nodes.keys ≡ []) → expressions_size m ≤ 4 * sum h.dags
     by (inl less) = absurd (omega (arith, less, more))
@@ -140,21 +142,30 @@ kept_small m b o checked h (inr more) built =
         let g = h.given in
         omega (arith, w, e, g, more)
 
--- the given machine is within the bound
-pub kept_within : (m : Machine) (b : Rebuilt) (o : Machine) (four : ℕ) → IsChecked m → IsRebuilt m (roots m) b → b.muxes.given ≤ four → four ≤ 4 * b.diagram_nodes → IsBuilt m [] None o
-    → IsOptimised m o
-kept_within m b o four checked h less is built = optimised_same m h.dags (may_be_kept m checked) o built h.each_dag within where
-  within : expressions_size m ≤ 4 * sum h.dags
-  within =
-      let g = h.given in
-      let s = h.several in
-      let few = h.table.few in
-      omega (arith, g, s, few, less, is)
+-- how much inner signals may weigh
+pub inner_bound : (m : Machine) (b : Rebuilt) (most : ℕ) → IsRebuilt m (roots m) b → ((b.is_large ≡ true) × (most ≡ b.muxes.given)) ⊎ (most ≤ 4 * b.diagram_nodes) → IsInnerBound m most
+inner_bound m b most h (inl large) = record {
+  dags = h.dags;
+  each = h.each_dag;
+  within = let g = h.given in let l = h.large large.0 in let is = large.1 in omega (arith, g, l, is);
+}
+inner_bound m b most h (inr less) = record { dags = h.dags; each = h.each_dag; within = let s = h.several in omega (arith, s, less) }
 
-pub kept_within_result : {E : Type 0} (m : Machine) (b : Rebuilt) (r : Result Machine E) (four : ℕ) → IsChecked m → IsRebuilt m (roots m) b → b.muxes.given ≤ four
-    → four ≤ 4 * b.diagram_nodes → IfOk r (λ o. IsBuilt m [] None o) → IfOk r (λ o. IsOptimised m o)
-kept_within_result m b (Ok o) four checked h less is built = kept_within m b o four checked h less is built
-kept_within_result m b (Err e) four checked h less is built = tt
+-- the given machine is within the bound
+pub kept_within_result : {E : Type 0} (m : Machine) (r : Result Machine E) (weight most : ℕ) → IsChecked m → machine_size m < 2 ^ 32 → min (inner_size m) (2 ^ 64 - 1) ≤ weight → weight ≤ most
+    → IsInnerBound m most → IfOk r (λ o. IsBuilt m [] None o) → IfOk r (λ o. IsOptimised m o)
+kept_within_result m (Ok o) weight most checked few weighs less bound built =
+    optimised_same m bound.dags (may_be_kept m checked) o built bound.each
+    (let within = bound.within in let inner = inner_within m in let parts = size_parts m in omega (arith, few, weighs, less, within, inner, parts))
+kept_within_result m (Err e) weight most checked few weighs less bound built = tt
+
+-- a machine that was proposed
+pub optimised_accepted : (m o : Machine) (most : ℕ) → IsInnerBound m most → IsAcceptable m most o → IsOptimised m o
+optimised_accepted m o most bound a = record {
+  alike = a.alike;
+  kept = a.kept;
+  small = record { size = a.size; dags = bound.dags; each = bound.each; inner = let within = bound.within in let inner = a.inner in omega (arith, within, inner) };
+}
 
 pub greatest_is : (m : Machine) (b : Rebuilt) → IsRebuilt m (roots m) b → IsGreatestDcount m b.nodes
 greatest_is m b h = record { counts = h.counts; each = h.each_count; greatest = h.nodes }

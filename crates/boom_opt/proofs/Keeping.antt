@@ -1,8 +1,8 @@
 -- What is said in place of an expression is the one that was given, or strictly smaller.
-use Rattle.std.proofs.Common.{◌≡◌, inl, inr, ℕ, zero, suc, ◌+◌, ◌<◌, ◌≤◌, Bool, true, false, List, [], ◌∷◌, length, Option, None, Some, refl, ap, ◌∙◌, arith, if◌then◌else◌}
+use Rattle.std.proofs.Common.{◌≡◌, inl, inr, ℕ, zero, suc, ◌+◌, ◌<◌, ◌≤◌, Bool, true, false, List, [], ◌∷◌, length, Option, None, Some, refl, arith, if◌then◌else◌}
 use Rattle.std.specs.Prelude.{◌*◌, nat_lt, slice_get}
 use Rattle.std.specs.List.{AllZip}
-use Rattle.bool_expr.specs.Expression.{Expression, constant, variable, inverse, pair, choice, size_of, IsOver}
+use Rattle.bool_expr.specs.Expression.{Expression, size_of, IsOver}
 use Rattle.bool_expr.specs.Renumbering.{renumbered}
 use Rattle.machine_core.specs.Machine.{Equation, Register}
 use Rattle.machine_core.specs.Order.{EachReadsBelow}
@@ -10,31 +10,10 @@ use Rattle.boom_literal.specs.declared.literal.Literal.{Literal}
 use Rattle.boom_muxes.specs.declared.plan.Plan.{Plan}
 use Rattle.boom_literal.specs.Literals.{literal_expression, said}
 use Rattle.boom_muxes.specs.Building.{numbers_behind, literal_for, load_for, equations_said, registers_said}
-use Rattle.boom_opt.specs.Optimised.{behind_new, IsGivenOrSmaller}
+use Rattle.boom_check.specs.Kept.{behind_new, IsGivenOrSmaller}
 use Rattle.boom_muxes.proofs.Weighing.{literal_smaller}
-use Rattle.boom_muxes.proofs.Numbered.{index-rising, over_more}
-
--- renumbered by the numbers behind new names, an expression says the same of the names
-pub renumbered_behind : (held count total : ℕ) (e : Expression) → IsOver e total → renumbered (numbers_behind held count total) e ≡ behind_new held count e
-renumbered_behind held count total (constant b) h = refl
-renumbered_behind held count total (variable k) h =
-    ap variable (index-rising (λ (x : ℕ). if nat_lt x held then x else x + count) 0 total k h ∙ ap (λ (x : ℕ). if nat_lt x held then x else x + count) (omega arith))
-renumbered_behind held count total (inverse e) h = ap inverse (renumbered_behind held count total e h)
-renumbered_behind held count total (pair g a b) h = λ j. pair g (renumbered_behind held count total a h.0 j) (renumbered_behind held count total b h.1 j)
-renumbered_behind held count total (choice c a b) h =
-    λ j. choice (renumbered_behind held count total c h.0 j) (renumbered_behind held count total a h.1.0 j) (renumbered_behind held count total b h.1.1 j)
-
--- and it weighs as much
-pub size_behind : (held count : ℕ) (e : Expression) → size_of (behind_new held count e) ≡ size_of e
-size_behind held count (constant b) = refl
-size_behind held count (variable k) = refl
-size_behind held count (inverse e) = let a = size_behind held count e in omega (arith, a)
-size_behind held count (pair g a b) = let x = size_behind held count a in let y = size_behind held count b in omega (arith, x, y)
-size_behind held count (choice c a b) =
-    let x = size_behind held count c in
-    let y = size_behind held count a in
-    let z = size_behind held count b in
-    omega (arith, x, y, z)
+use Rattle.boom_muxes.proofs.Numbered.{over_more}
+use Rattle.boom_check.proofs.Behind.{renumbered_behind, size_behind}
 
 pub said_kept : (held count total : ℕ) (l : Option Literal) (e : Expression) → IsOver e total
     → IsGivenOrSmaller (behind_new held count e) (said (numbers_behind held count total) l e)

@@ -29,15 +29,19 @@ use Rattle.boom_muxes.specs.declared.muxes.Muxes.{Muxes}
 use Rattle.boom_muxes.specs.declared.plan.Plan.{Plan}
 use Rattle.boom_literal.specs.Literals.{literal_expression, said}
 use Rattle.boom_muxes.specs.Muxes.{mux_expression, mux_weight, muxes_weight, IsTable}
-use Rattle.boom_opt.specs.Optimised.{IsKept, IsOptimised, IsGivenOrSmaller, behind_new, inner_size}
+use Rattle.boom_check.specs.Kept.{IsKept, IsGivenOrSmaller, behind_new, inner_size}
+use Rattle.boom_opt.specs.Optimised.{IsOptimised}
 use Rattle.boom_muxes.specs.Names.{new_names}
 use Rattle.boom_muxes.specs.Building.{numbers_behind, literal_for, or_zero, load_for, equations_said, registers_said, mux_equations, MayBeBuilt, IsBuilt}
 use Rattle.boom_opt.specs.Rebuilt.{expressions_size, IsShown, SaysRoot, IsPlanOf}
 use Rattle.boom_muxes.proofs.Weighing.{chosen_size, mux_built}
-use Rattle.boom_opt.proofs.Bounds.{sum_by-cons, sum_by-append, inner_when_kept}
-use Rattle.boom_opt.proofs.Keeping.{renumbered_behind, equations_kept, registers_kept}
+use Rattle.boom_check.proofs.Sums.{sum_by-cons, sum_by-append}
+use Rattle.boom_opt.proofs.Bounds.{inner_when_kept}
+use Rattle.boom_check.proofs.Behind.{renumbered_behind}
+use Rattle.boom_opt.proofs.Keeping.{equations_kept, registers_kept}
 use Rattle.boom_muxes.proofs.Numbered.{over_more}
-use Rattle.boom_muxes.proofs.Sound.{names_new, built_ordered, total, same_registers, same_inputs, same_outputs, length-new_names}
+use Rattle.boom_muxes.proofs.Anew.{length-new_names}
+use Rattle.boom_muxes.proofs.Sound.{names_new, built_ordered, total, same_registers, same_inputs, same_outputs}
 use Rattle.boom_opt.proofs.Beside.{beside, other, shows_same, loads_same}
 
 -- ---- what is kept
@@ -129,10 +133,9 @@ alike_itself m ordered = record {
 
 -- the given machine, where it is kept
 pub optimised_same : (m : Machine) (dags : List ℕ) → MayBeBuilt m [] None → (o : Machine) → IsBuilt m [] None o → AllZip (IsDag m) (roots m) dags
-    → expressions_size m ≤ 4 * sum dags → IsOptimised m o
-optimised_same m dags may o b each most =
+    → inner_size m ≤ 4 * sum dags → IsOptimised m o
+optimised_same m dags may o b each inner =
     let same = same_machine m may o b in
-    let inner = inner_when_kept m (4 * sum dags) most in
     record {
       alike = subst (λ (x : Machine). IsAlike m x) (sym same) (alike_itself m may.checked.ordered);
       kept = kept_built m [] None may o b (omega arith);

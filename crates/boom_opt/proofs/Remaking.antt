@@ -19,22 +19,11 @@ use Rattle.boom_muxes.specs.Muxes.{IsTable, HasGrownBy, IsLiteralBelow, mux_weig
 use Rattle.boom_muxes.specs.Planning.{IsFollowed, NotedAt, SaysValue}
 use Rattle.boom_opt.specs.Rebuilt.{IsRootOf, IsShown, SaysRoot, IsPlanOf, IsNext}
 use Rattle.boom_muxes.proofs.Weighing.{weight_by_count}
-use Rattle.boom_opt.proofs.Bounds.{sum_by-cons, sum_by-append}
+use Rattle.boom_check.proofs.Lists.{zip_push, zip_mapped}
+use Rattle.boom_check.proofs.Sums.{sum_by-cons, sum_by-append}
 use Rattle.boom_muxes.proofs.Planned.{below_on, value_on, plan_followed, equation_value}
 
 -- ---- one more at the end of a list
-
-pub zip_push : {A B : Type 0} (R : A → B → Type 0) (xs : List A) (ys : List B) (x : A) (y : B) → AllZip R xs ys → R x y → AllZip R (xs ++ x ∷ []) (ys ++ y ∷ [])
-zip_push R [] [] x y all here = (here, tt)
-zip_push R [] (b ∷ ys) x y all here = elim all [ ]
-zip_push R (a ∷ xs) [] x y all here = elim all [ ]
-zip_push R (a ∷ xs) (b ∷ ys) x y all here = (all.0, zip_push R xs ys x y all.1 here)
-
-pub zip_mapped : {A B : Type 0} (R S : A → B → Type 0) (xs : List A) (ys : List B) → ((x : A) (y : B) → R x y → S x y) → AllZip R xs ys → AllZip S xs ys
-zip_mapped R S [] [] f all = tt
-zip_mapped R S [] (b ∷ ys) f all = elim all [ ]
-zip_mapped R S (a ∷ xs) [] f all = elim all [ ]
-zip_mapped R S (a ∷ xs) (b ∷ ys) f all = (f a b all.0, zip_mapped R S xs ys f all.1)
 
 pub all_push : {A : Type 0} (P : A → Type 0) (xs : List A) (x : A) → All P xs → P x → All P (xs ++ x ∷ [])
 all_push P [] x all here zero d h = here

@@ -1,51 +1,13 @@
 -- What an optimised machine is.
-use Rattle.std.specs.Prelude.{◌≡◌, ◌⊎◌, ℕ, ◌+◌, ◌*◌, ◌<◌, ◌≤◌, Bool, nat_lt, List, ◌++◌, map, sum, sum_by, if◌then◌else◌}
-use Rattle.std.specs.List.{AllZip, list_any}
-use Rattle.vlsi_base.specs.declared.name.Name.{Name}
-use Rattle.vlsi_base.specs.Member.{In}
-use Rattle.bool_expr.specs.Expression.{Expression, variable, size_of}
-use Rattle.machine_core.specs.Named.{is_same_name}
-use Rattle.machine_core.specs.Machine.{Machine, Equation, Register, outputs, names_of}
+use Rattle.std.specs.Prelude.{ℕ, ◌*◌, ◌≤◌, List, sum}
+use Rattle.std.specs.List.{AllZip}
+use Rattle.machine_core.specs.Machine.{Machine}
 use Rattle.machine_core.specs.Size.{machine_size}
-use Rattle.machine_core.specs.Order.{held_names, equation_names}
 use Rattle.machine_core.specs.Alike.{IsAlike}
-use Rattle.machine_walk.specs.Expansion.{with_variables, held_count}
 use Rattle.machine_roots.specs.Roots.{IsDag, roots, IsFirstOver}
-use Rattle.boom_muxes.specs.Names.{new_names}
+pub use Rattle.boom_check.specs.Kept.{is_output, inner_size, behind_new, IsGivenOrSmaller, IsKept}
 use Rattle.boom_opt.specs.declared.error.BoomError.{BoomError}
 use Rattle.boom_opt.specs.declared.error.BoomError.TheVariants as error
-
--- how large the equations of inner signals are: of those that are no outputs
-abbrev pub is_output : Machine → Name → Bool
-is_output m name = list_any (λ n. is_same_name n name) (outputs m)
-
-abbrev pub inner_size : Machine → ℕ
-inner_size m = sum_by (λ e. if is_output m e.name then 0 else size_of e.expr) m.equations
-
--- the same expression, name by name, where so many new names stand behind inputs and registers
-abbrev pub behind_new : ℕ → ℕ → Expression → Expression
-behind_new held count e = with_variables (λ k. variable (if nat_lt k held then k else k + count)) e
-
--- the one that was given, or a strictly smaller one
-abbrev pub IsGivenOrSmaller : Expression → Expression → Type 0
-IsGivenOrSmaller given made = (made ≡ given) ⊎ (size_of made < size_of given)
-
--- The names of the machine stay, in their order; new ones are bits of a vector of a name that it doesn't have, and their equations
--- stand before the others. There are no more new ones than the given machine weighs. What an equation or a register of the given machine
--- says is kept, or is strictly smaller.
-pub record IsKept (m o : Machine) : Type 0 where
-  pub text : List ℕ
-  pub made : List Equation
-  pub kept : List Equation
-  pub count : ℕ
-  pub few : count ≤ machine_size m
-  pub fresh : (name : Name) → In name (names_of m.ports ++ m.vars) → name.text ≡ text → ⊥
-  pub vars : o.vars ≡ held_names m ++ (new_names text count ++ equation_names m)
-  pub equations : o.equations ≡ made ++ kept
-  pub new : map (λ e. e.name) made ≡ new_names text count
-  pub said : AllZip (λ (e f : Equation). (f.name ≡ e.name) × IsGivenOrSmaller (behind_new (held_count m) count e.expr) f.expr) m.equations kept
-  pub loads : AllZip (λ (r q : Register). (q.name ≡ r.name) × IsGivenOrSmaller (behind_new (held_count m) count r.next) q.next
-      × IsGivenOrSmaller (behind_new (held_count m) count r.enable) q.enable) m.registers o.registers
 
 -- It isn't larger; and the equations of its inner signals are within four times the nodes of the diagrams of the given machine's
 -- roots, each diagram for itself: four is what a choice weighs.
@@ -54,6 +16,12 @@ pub record IsSmall (m o : Machine) : Type 0 where
   pub dags : List ℕ
   pub each : AllZip (IsDag m) (roots m) dags
   pub inner : inner_size o ≤ 4 * sum dags
+
+-- so much is within four times the nodes of the diagrams of the machine's roots
+pub record IsInnerBound (m : Machine) (most : ℕ) : Type 0 where
+  pub dags : List ℕ
+  pub each : AllZip (IsDag m) (roots m) dags
+  pub within : most ≤ 4 * sum dags
 
 -- it does the same, keeps what it can't make smaller, and meets both bounds
 pub record IsOptimised (m o : Machine) : Type 0 where

@@ -8,11 +8,13 @@
 //
 // The answer is the smaller one of the two, and the given one where they weigh the same. A smaller machine may have a larger netlist, since
 // it is made of choices alone and shares less of what the roots have in common. So the given one is also kept where its subject graph
-// has fewer gates, if its expressions are within the bound of inner signals.
+// has fewer gates, if its inner signals are within the bound. In the place of that answer comes a machine that was proposed, as one
+// in which some roots keep their equations and others get those of their diagrams: where it has fewer gates, and a check shows that it
+// does the same and meets both bounds.
 // - Its size is at most the given one.
 // - Its inner signals weigh at most four times the diagrams: of the second machine this was said; and where the given one is kept,
 //   all its expressions together weigh no more than the choices, or than the choices up to the one at which the second machine was
-//   given up, which is a node of a diagram too, or than four times the nodes of the diagrams.
+//   given up, which is a node of a diagram too, or its inner signals no more than four times the nodes of the diagrams.
 // - What it says of a name of the given machine, or of what a register loads, is what was given, or weighs 0 where that weighs more.
 //
 // The second machine is given up as soon as it weighs as much as the given one. So the table of choices never holds more than the
@@ -26,7 +28,7 @@ ghost use Rattle.machine_roots.specs.Asked.{IsRootDiagram};
 ghost use Rattle.machine_roots.specs.Listing.{root_view};
 ghost use Rattle.machine_roots.specs.Roots.{Root, roots as roots_of, IsOverBudget, IsGreatestDcount};
 ghost use Rattle.machine_core.specs.Checked.{IsChecked};
-ghost use Rattle.boom_opt.specs.Optimised.{IsOptimised, IsOverIn};
+ghost use Rattle.boom_opt.specs.Optimised.{IsOptimised, IsInnerBound, IsOverIn};
 ghost use Rattle.boom_muxes.specs.Building.{IsBuilt};
 ghost use Rattle.boom_opt.specs.Rebuilt.{IsWeight, IsRootOf, IsOverRoot, IsNext, IsRebuilt, HasRebuilt};
 
@@ -34,6 +36,8 @@ use crate::error::BoomError;
 use crate::gates::has_fewer_gates;
 use bdd_core::BddError;
 use bool_expr::size;
+use boom_check::{Proposal, assembled, inner_weight, may_replace};
+use boom_mix::mixed;
 use boom_muxes::{Muxes, Plan, Stop, build, literal_of};
 use indexmap::IndexMap;
 use machine_core::{Equation, Machine, Register};
@@ -197,8 +201,21 @@ fn kept(alloc: Global, m: &Machine) -> Result<Machine, AllocError>
     build(alloc, m, &[], None)
 }
 
-// The smaller one of the two machines, and the given one where they weigh the same, or where it has fewer gates and its expressions weigh
-// at most four times the diagrams.
+// The most that inner signals may weigh: four times the diagrams. Where the second machine was given up, that is what the given one
+// weighs, which is no more.
+fn most_inner(m: &Machine, made: &Rebuilt) -> u64
+    requires { IsRebuilt m.now (roots_of m.now) made.now }
+    ensures { IsInnerBound m.now result }
+{
+    if made.is_large {
+        made.muxes.given
+    } else {
+        made.diagram_nodes.saturating_mul(4)
+    }
+}
+
+// The smaller one of the two machines, and the given one where they weigh the same, or where it has fewer gates and its inner signals
+// weigh at most four times the diagrams.
 fn smaller(alloc: Global, m: &Machine, made: &Rebuilt) -> Result<Machine, AllocError>
     requires checked { IsChecked m.now }
     requires few { length m.now.vars + length m.now.ports + machine_size m.now < 2 ^ 32 - 1 }
@@ -212,12 +229,70 @@ fn smaller(alloc: Global, m: &Machine, made: &Rebuilt) -> Result<Machine, AllocE
         return kept(alloc, m);
     }
     let second = build(alloc, m, made.muxes.nodes.as_slice(), Some(&made.plan))?;
-    if made.muxes.given <= made.diagram_nodes.saturating_mul(4)
-        && has_fewer_gates(alloc, m, &second)?
-    {
+    if inner_weight(m) <= most_inner(m, made) && has_fewer_gates(alloc, m, &second)? {
         return kept(alloc, m);
     }
     Ok(second)
+}
+
+// How much inner signals may weigh, and how many nodes a diagram of two roots may have that shows that they are one function.
+#[derive(Clone, Copy)]
+struct Limits {
+    most_inner: u64,
+    budget: u32,
+}
+
+// How many times the nodes of the largest diagram a diagram of two roots may have, and how many more.
+const TIMES_NODES: u32 = 4;
+
+const MORE_NODES: u32 = 1000;
+
+// The machine of a proposal, where it has fewer gates than the best one so far and may stand in the given one's place; and the best one
+// elsewhere.
+fn better(
+    alloc: Global,
+    m: &Machine,
+    best: Machine,
+    proposal: &Proposal,
+    limits: Limits,
+) -> Result<Machine, AllocError>
+    requires few { length m.now.vars + length m.now.ports + machine_size m.now < 2 ^ 32 - 1 }
+    requires bound { IsInnerBound m.now limits.most_inner }
+    requires best { IsOptimised m.now best }
+    ensures { IfOk result (λ o. IsOptimised m.now o) }
+{
+    let Some(made) = assembled(alloc, m, proposal)? else {
+        return Ok(best);
+    };
+    if !has_fewer_gates(alloc, &made, &best)? {
+        return Ok(best);
+    }
+    if may_replace(alloc, m, &made, limits.most_inner, limits.budget)? {
+        Ok(made)
+    } else {
+        Ok(best)
+    }
+}
+
+// The best machine of those that are proposed, and of the smaller one of the two.
+fn best_of(alloc: Global, m: &Machine, made: &Rebuilt) -> Result<Machine, AllocError>
+    requires checked { IsChecked m.now }
+    requires few { length m.now.vars + length m.now.ports + machine_size m.now < 2 ^ 32 - 1 }
+    requires made { IsRebuilt m.now (roots_of m.now) made.now }
+    ensures { IfOk result (λ o. IsOptimised m.now o) }
+{
+    let first = smaller(alloc, m, made)?;
+    let limits = Limits {
+        most_inner: most_inner(m, made),
+        budget: made
+            .nodes
+            .saturating_mul(TIMES_NODES)
+            .saturating_add(MORE_NODES),
+    };
+    match mixed(alloc, m, made.muxes.nodes.as_slice(), &made.plan)? {
+        Some(proposal) => better(alloc, m, first, &proposal, limits),
+        None => Ok(first),
+    }
 }
 
 /// A machine that does the same, isn't larger, and whose inner signals weigh at most four times the diagrams of the given one's
@@ -234,7 +309,7 @@ pub fn optimise(alloc: Global, m: &Machine, budget: u32) -> Result<Optimised, Bo
     // A machine is checked.
     let _ = m.name();
     let made = remake(alloc, m, budget)?;
-    let machine = smaller(alloc, m, &made)?;
+    let machine = best_of(alloc, m, &made)?;
     Ok(Optimised {
         machine,
         nodes: made.nodes,

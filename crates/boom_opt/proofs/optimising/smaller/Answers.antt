@@ -23,8 +23,9 @@ build-requires-clause-few c =
 
 pub returns-then-branch : goal.returns-then-branch
 returns-then-branch c =
-    kept_within_result c.args.m.now c.args.made.now c.kept-then-branch.result c.saturating_mul.result c.requires.checked c.requires.made c.if-made-saturating_mul.true
-    (let e = c.saturating_mul.ensures in omega (arith, e)) c.kept-then-branch.ensures
+    let few = c.requires.few in
+    kept_within_result c.args.m.now c.kept-then-branch.result c.inner_weight.result c.most_inner.result c.requires.checked (omega (arith, few)) c.inner_weight.ensures
+    c.if-inner_weight-most_inner.true c.most_inner.ensures c.kept-then-branch.ensures
 
 pub returns : goal.returns
 returns c =
