@@ -50,11 +50,17 @@ def open_file_of(case, words, told):
     tool = TOOLS.get(words[0]) if words else None
     if tool and case.status == 0 and tool.writes:
         name, faults_of = tool.writes(words, case.before)
+        if tool.tells:
+            faults_of = beside(faults_of, tool.tells, told)
     elif tool and case.status == STUCK and tool.leaves:
         name, faults_of = tool.leaves(words, case.before, told)
     else:
         return None
     return None if name in case.after else (os.path.normpath(name), faults_of)
+
+
+def beside(faults_of, tells, told):
+    return lambda text: [*faults_of(text), *tells(text, told)]
 
 
 def full_disk(results, program, case, words, title, told):
