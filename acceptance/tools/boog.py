@@ -204,7 +204,7 @@ def run_beside(results, room, program, title, files, n, patterns):
         results.note(f"{title}: netlist and source in the second readers", is_same, f"{wanted} is not that of {source[:2000]!r}")
         for words in (["asimut", "s.vbe", "-p", "t.pat"], netlists.WORDS):
             got = room.run(program, words)
-            results.note(f"{title}: {words[1]} under patterns", agrees(got, wanted), f"{shown(*got)} is not {wanted} for {source[:2000]!r}")
+            results.note(f"{title}: {words[1]} under patterns", same_answer(got, wanted), f"{shown(*got)} is not {wanted} for {source[:2000]!r}")
     is_other = differs_from(machine_of(source), n, random.Random(len(source)))
     results.note(f"{title}: netlist and source from any contents", not is_other, f"they differ for {source[:2000]!r}")
 
