@@ -30,6 +30,8 @@ from share.formats.vst_writer import laid_out
 
 USAGE = "usage: alliance boog SOURCE.vbe -l DIR -o NAME\n"
 FIVE = ["inv_x1", "na2_x1", "zero_x0", "one_x0", "sff1_x4"]
+ALL = [line.split()[0] for line in (CELLS / "CATAL").read_text().splitlines()]
+MORE = [name for name in ALL if name not in FIVE]
 WORDS = ["boog", "s.vbe", "-l", "lib", "-o", "r"]
 MACHINES, CHUNK, VECTORS = 200, 25, 8
 
@@ -143,7 +145,7 @@ def of_cells(names, folder="lib"):
 def random_files(choose):
     """A library that mostly has a cell of each kind: some of this repository's cells in any order, some made."""
     names = [name for name in FIVE if choose.random() < 0.97]
-    names += choose.sample(["inv_x8", "na3_x1", "sff1_x8", "xr2_x1", "mx2_x2", "buf_x2"], choose.randrange(3))
+    names += choose.sample(MORE, choose.choice([0, 1, 2, 5, 10, len(MORE)]))
     choose.shuffle(names)
     files = of_cells(names)
     made = [CellMaker(choose).cell(name) for name in ["m1", "m2", "m3"][: choose.choice([0, 0, 1, 3])]]
@@ -227,11 +229,11 @@ def check_machines(results, program, seed, numbers):
             run_mapped(results, room, program, "a random source and library", files, maker.pattern_file(choose.randrange(1, 20)).encode())
 
 
-def check_circuit(results, program, seed, gates):
+def check_circuit(results, program, seed, gates, names):
     with Room() as room:
         subprocess.run([sys.executable, BENCH / "asimut_inputs.py", str(gates), "20", room.folder, str(seed)], check=True)
         source, patterns = (room.folder / "c.vbe").read_bytes(), (room.folder / "p.pat").read_bytes()
-        run_mapped(results, room, program, f"{gates} gates", {**of_cells(FIVE), "s.vbe": source}, patterns)
+        run_mapped(results, room, program, f"{gates} gates", {**of_cells(names), "s.vbe": source}, patterns)
 
 
 def check_examples(results, program):
@@ -240,7 +242,7 @@ def check_examples(results, program):
         patterns = path.with_suffix(".pat")
         if not patterns.exists():
             continue
-        for names in (FIVE, [line.split()[0] for line in (CELLS / "CATAL").read_text().splitlines()]):
+        for names in (FIVE, ALL):
             with Room() as room:
                 files = {**of_cells(names), "s.vbe": path.read_bytes(), "r.vst": b"what was there before\n"}
                 run_mapped(results, room, program, f"the example {path.name}", files, patterns.read_bytes())
@@ -255,8 +257,9 @@ def check_words(results, program):
 
 
 def jobs(program, seed, times):
-    yield check_circuit, (program, seed, 1000)
-    yield check_circuit, (program, seed, 60)
+    yield check_circuit, (program, seed, 1000, FIVE)
+    yield check_circuit, (program, seed, 1000, ALL)
+    yield check_circuit, (program, seed, 60, ALL)
     numbers = range(MACHINES * times)
     for at in range(0, len(numbers), CHUNK):
         yield check_machines, (program, seed, numbers[at : at + CHUNK])
