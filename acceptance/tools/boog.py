@@ -11,6 +11,7 @@ import sys
 
 from acceptance import cells
 from acceptance.makers.cell_maker import CellMaker
+from acceptance.makers.plain_netlists import has_an_and, plain_netlist, with_a_pin_moved
 from acceptance.makers.random_sources import Maker, changed, flipped
 from acceptance.makers.random_sources import WORDS as SOURCE_WORDS
 from acceptance.meaning.mapping import MOST_SIZE, Graph, machine_size, mapping_faults
@@ -33,7 +34,7 @@ FIVE = ["inv_x1", "na2_x1", "zero_x0", "one_x0", "sff1_x4"]
 ALL = [line.split()[0] for line in (CELLS / "CATAL").read_text().splitlines()]
 MORE = [name for name in ALL if name not in FIVE]
 WORDS = ["boog", "s.vbe", "-l", "lib", "-o", "r"]
-MACHINES, CHUNK, VECTORS = 200, 25, 8
+MACHINES, PLAIN, CHUNK, VECTORS = 200, 100, 25, 8
 
 
 # ---- the second answer
@@ -248,6 +249,25 @@ def check_examples(results, program):
                 run_mapped(results, room, program, f"the example {path.name}", files, patterns.read_bytes())
 
 
+def check_plain(results, seed, numbers):
+    """What is said of netlists that have a cell for each node: over five cells nothing; where they behave otherwise, or over all cells have a
+    nand and an inverter for an and, something."""
+    five, every = library(of_cells(FIVE), "lib"), library(of_cells(ALL), "lib")
+    for number in numbers:
+        choose = random.Random(f"{seed} plain {number}")
+        source = Maker(choose).source().encode()
+        m = machine_of(source)
+        plain = plain_netlist(m, five)
+        faults = list(netlist_faults(m, five, plain))
+        results.note("a cell for each node", not faults, f"{faults} for {source[:2000]!r}")
+        other = with_a_pin_moved(choose, m, plain)
+        is_well = bool(list(mapping_faults(m, five, other))) or not differs_from(m, other, choose)
+        results.note("a netlist with a pin moved", is_well, f"no fault for {source[:2000]!r}")
+        over_every = plain_netlist(m, every)
+        is_well = bool(list(mapping_faults(m, every, over_every))) or not has_an_and(m, over_every)
+        results.note("an and of two cells", is_well, f"no fault for {source[:2000]!r}")
+
+
 def check_words(results, program):
     files = {**of_cells(FIVE), "s.vbe": (EXAMPLES / "inverter/row1.vbe").read_bytes()}
     got = run_in(files, program, [b"boog", b"\xff.vbe", *WORDS[2:]])
@@ -263,5 +283,6 @@ def jobs(program, seed, times):
     numbers = range(MACHINES * times)
     for at in range(0, len(numbers), CHUNK):
         yield check_machines, (program, seed, numbers[at : at + CHUNK])
+    yield check_plain, (seed, range(PLAIN * times))
     yield check_examples, (program,)
     yield check_words, (program,)
