@@ -43,7 +43,17 @@ def check_run(results, case, words, title, got, wanted, told):
         kept.pop(name, None)
         faults = ["it isn't there"] if text is None else faults_of(text)
         results.note(f"{title}: the file {name}", not faults, f"{faults} in {text and text[:2000]!r}")
+        if not faults:
+            check_report(results, case, words, title, text, told)
     compare(results, title, (status, printed, files), *wanted, kept)
+
+
+def check_report(results, case, words, title, text, told):
+    """What is printed of a layout, where the case leaves a part of it open."""
+    report_on = TOOLS[words[0]].report_on
+    if report_on and case.status == 0 and case.is_begun_by(told):
+        wanted = report_on(words, case.before, text)
+        results.note(f"{title}: the report", bytes(told) == wanted, f"{bytes(told)!r} is not {wanted!r}")
 
 
 def open_file_of(case, words, told):

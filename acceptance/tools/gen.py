@@ -148,6 +148,12 @@ def writes(words, files):
     return f"{found.out}.ap", lambda text: flow.written_faults(as_flow(found), {**files, **made(found)}, text)
 
 
+def report_on(words, files, text):
+    """What a command prints of the layout that it wrote."""
+    found = parsed(words)
+    return flow.report_on(as_flow(found), {**files, **made(found)}, text)
+
+
 def leaves(words, files, printed):
     """The file that a command leaves where a net is stuck, with the check of its text."""
     found = parsed(words)
