@@ -1,9 +1,11 @@
 """What the second readers say of `boog`, and what no case of it has: random machines over random libraries, circuits of gates,
-and the netlists that it writes, read again and run beside their sources.
+and the netlists that it writes, read again and run beside their sources. How many cells a netlist has is open, and so the netlist that was
+written is asked.
 """
 
 import itertools
 import random
+import re
 import subprocess
 import sys
 
@@ -11,14 +13,15 @@ from acceptance import cells
 from acceptance.makers.cell_maker import CellMaker
 from acceptance.makers.random_sources import Maker, changed, flipped
 from acceptance.makers.random_sources import WORDS as SOURCE_WORDS
-from acceptance.meaning.mapping import MOST_SIZE, Graph, Shapes, drawn_graph, drawn_netlist, machine_size
+from acceptance.meaning.mapping import MOST_SIZE, Graph, machine_size, mapping_faults
 from acceptance.readers.words import TOOLS_LINE, command, held, trouble
 from acceptance.running.places import BENCH, CELLS, EXAMPLES
 from acceptance.running.results import Room, compare, run_in, shown
 from acceptance.tools import netlists
-from acceptance.tools.answers import agrees, refusal
+from acceptance.tools.answers import agrees as same_answer
+from acceptance.tools.answers import refusal
 from acceptance.tools.sources import answer
-from share.formats.models import IN, OUT, Refusal, first_missing, first_of, library
+from share.formats.models import IN, OUT, Refusal, first_missing, library
 from share.formats.pat_oracle import machine_of
 from share.formats.vbe_oracle import FILE, Ring
 from share.formats.vhdl_reader import SUPPLIES, Refused
@@ -41,16 +44,17 @@ def parsed(words):
 
 
 def of_machine(m, models):
-    """The status and the line on a machine over a library."""
+    """The status and the line on a machine over a library; of a netlist it is (0, the fewest cells that it may have, the most)."""
     size = machine_size(m)
     if size > MOST_SIZE:
         return 9, f"boog: limit: size {size}\n"
     kind = first_missing(models, bool(m.registers))
-    return (4, f"boog: no cover: {kind}\n") if kind else (0, f"cells {Graph(m).cells()}\n")
+    return (4, f"boog: no cover: {kind}\n") if kind else (0, len(m.registers), Graph(m).most_cells())
 
 
 def second(words, files):
-    """What the second readers say of a command over files: (status, text), or (2, Ring) where any of some rings may be named."""
+    """What the second readers say of a command over files: (status, text), or (2, Ring) where any of some rings may be named; of a netlist
+    what of_machine says."""
     found = parsed(words)
     if found is None:
         return 1, USAGE
@@ -70,22 +74,20 @@ def second(words, files):
     return of_machine(m, models)
 
 
+def cells_told(printed):
+    """The number of cells that is printed, or None."""
+    found = re.fullmatch("cells (0|[1-9][0-9]*)\n", bytes(printed).decode(errors="replace"))
+    return int(found[1]) if found else None
+
+
+def agrees(got, wanted):
+    if wanted[0] != 0:
+        return same_answer(got, wanted)
+    told = cells_told(got[1])
+    return got[0] == 0 and told is not None and wanted[1] <= told <= wanted[2]
+
+
 # ---- the netlist that is written
-
-
-def order_faults(n, registers):
-    """Whether instances are q0, q1 and so on, which are flip-flops, then g0, g1 and so on, each of which reads what is before it."""
-    first, others = n.instances[:registers], n.instances[registers:]
-    if [i.name for i in n.instances] != [f"q{k}" for k in range(registers)] + [f"g{k}" for k in range(len(others))]:
-        yield "the names of the instances"
-    if any((i.model.kind == "dff") != (k < registers) or i.model.kind is None for k, i in enumerate(n.instances)):
-        yield "the kinds of the instances"
-    known = {bit for bit, way in n.all_ports.items() if way == IN}
-    known |= {i.nets[bit] for i in first for bit in i.model.outputs}
-    for instance in others:
-        if any(instance.nets[pin] not in known for pin in instance.model.inputs):
-            yield f"the place of {instance.name}"
-        known.update(instance.nets[bit] for bit in instance.model.outputs)
 
 
 def netlist_faults(m, models, n):
@@ -96,15 +98,7 @@ def netlist_faults(m, models, n):
         yield "the ports"
     if n.clock != ((m.clock, -1) if m.registers else None):
         yield f"the clock {n.clock}"
-    graph, shapes = Graph(m), Shapes()
-    if len(n.instances) != graph.cells():
-        yield f"{len(n.instances)} instances, and not {graph.cells()}"
-    if any(i.model is not first_of(models, i.model.kind) for i in n.instances if i.model.kind):
-        yield "a cell that isn't the first of its kind"
-    faults = list(order_faults(n, len(m.registers)))
-    yield from faults
-    if not faults and drawn_graph(shapes, graph) != drawn_netlist(shapes, n):
-        yield "the nodes, or what outputs and registers take"
+    yield from mapping_faults(m, models, n)
 
 
 def layout_faults(n, text):
