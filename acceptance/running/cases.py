@@ -43,28 +43,25 @@ def check_run(results, case, words, title, got, wanted, told):
         kept.pop(name, None)
         faults = ["it isn't there"] if text is None else faults_of(text)
         results.note(f"{title}: the file {name}", not faults, f"{faults} in {text and text[:2000]!r}")
-        if not faults:
-            check_report(results, case, words, title, text, told)
     compare(results, title, (status, printed, files), *wanted, kept)
-
-
-def check_report(results, case, words, title, text, told):
-    """What is printed of a layout, where the case leaves a part of it open."""
-    report_on = TOOLS[words[0]].report_on
-    if report_on and case.status == 0 and case.is_begun_by(told):
-        wanted = report_on(words, case.before, text)
-        results.note(f"{title}: the report", bytes(told) == wanted, f"{bytes(told)!r} is not {wanted!r}")
 
 
 def open_file_of(case, words, told):
     tool = TOOLS.get(words[0]) if words else None
     if tool and case.status == 0 and tool.writes:
         name, faults_of = tool.writes(words, case.before)
+        if tool.tells:
+            faults_of = beside(case, words, faults_of, told)
     elif tool and case.status == STUCK and tool.leaves:
         name, faults_of = tool.leaves(words, case.before, told)
     else:
         return None
     return None if name in case.after else (os.path.normpath(name), faults_of)
+
+
+def beside(case, words, faults_of, told):
+    """The faults of a file, and where it has none those of what is told of it."""
+    return lambda text: faults_of(text) or TOOLS[words[0]].tells(words, case.before, text, told)
 
 
 def full_disk(results, program, case, words, title, told):

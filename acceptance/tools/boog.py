@@ -30,6 +30,8 @@ from share.formats.vst_writer import laid_out
 
 USAGE = "usage: alliance boog SOURCE.vbe -l DIR -o NAME\n"
 FIVE = ["inv_x1", "na2_x1", "zero_x0", "one_x0", "sff1_x4"]
+ALL = [line.split()[0] for line in (CELLS / "CATAL").read_text().splitlines()]
+MORE = [name for name in ALL if name not in FIVE]
 WORDS = ["boog", "s.vbe", "-l", "lib", "-o", "r"]
 MACHINES, CHUNK, VECTORS = 200, 25, 8
 
@@ -119,6 +121,12 @@ def written_faults(words, files, text):
     return [*netlist_faults(m, models, n), *layout_faults(n, text)]
 
 
+def tells(_words, _files, text, printed):
+    """Whether what is printed is the number of instances."""
+    count = text.count(b"\nport map (\n")
+    return [] if cells_told(printed) == count else [f"{bytes(printed)!r} is told of {count} instances"]
+
+
 def writes(words, files):
     """The file that a command writes, with the check of its text."""
     return f"{parsed(words)[2]}.vst", lambda text: written_faults(words, files, text)
@@ -137,7 +145,7 @@ def of_cells(names, folder="lib"):
 def random_files(choose):
     """A library that mostly has a cell of each kind: some of this repository's cells in any order, some made."""
     names = [name for name in FIVE if choose.random() < 0.97]
-    names += choose.sample(["inv_x8", "na3_x1", "sff1_x8", "xr2_x1", "mx2_x2", "buf_x2"], choose.randrange(3))
+    names += choose.sample(MORE, choose.choice([0, 1, 2, 5, 10, len(MORE)]))
     choose.shuffle(names)
     files = of_cells(names)
     made = [CellMaker(choose).cell(name) for name in ["m1", "m2", "m3"][: choose.choice([0, 0, 1, 3])]]
@@ -182,7 +190,7 @@ def run_mapped(results, room, program, title, files, patterns):
         results.note(f"{title}: files behind a refusal", room.held() == {**files, "t.pat": patterns}, "a file changed")
         return
     text = room.held().get("r.vst") or b""
-    faults = written_faults(WORDS, files, text)
+    faults = [*written_faults(WORDS, files, text), *tells(WORDS, files, text, got[1])]
     results.note(f"{title}: the netlist", not faults, f"{faults} in {text[:3000]!r} for {files['s.vbe'][:2000]!r}")
     if not faults:
         run_beside(results, room, program, title, files, netlist(text, library(files, "lib")), patterns)
@@ -198,7 +206,7 @@ def run_beside(results, room, program, title, files, n, patterns):
         results.note(f"{title}: netlist and source in the second readers", is_same, f"{wanted} is not that of {source[:2000]!r}")
         for words in (["asimut", "s.vbe", "-p", "t.pat"], netlists.WORDS):
             got = room.run(program, words)
-            results.note(f"{title}: {words[1]} under patterns", agrees(got, wanted), f"{shown(*got)} is not {wanted} for {source[:2000]!r}")
+            results.note(f"{title}: {words[1]} under patterns", same_answer(got, wanted), f"{shown(*got)} is not {wanted} for {source[:2000]!r}")
     is_other = differs_from(machine_of(source), n, random.Random(len(source)))
     results.note(f"{title}: netlist and source from any contents", not is_other, f"they differ for {source[:2000]!r}")
 
@@ -221,11 +229,11 @@ def check_machines(results, program, seed, numbers):
             run_mapped(results, room, program, "a random source and library", files, maker.pattern_file(choose.randrange(1, 20)).encode())
 
 
-def check_circuit(results, program, seed, gates):
+def check_circuit(results, program, seed, gates, names):
     with Room() as room:
         subprocess.run([sys.executable, BENCH / "asimut_inputs.py", str(gates), "20", room.folder, str(seed)], check=True)
         source, patterns = (room.folder / "c.vbe").read_bytes(), (room.folder / "p.pat").read_bytes()
-        run_mapped(results, room, program, f"{gates} gates", {**of_cells(FIVE), "s.vbe": source}, patterns)
+        run_mapped(results, room, program, f"{gates} gates", {**of_cells(names), "s.vbe": source}, patterns)
 
 
 def check_examples(results, program):
@@ -234,7 +242,7 @@ def check_examples(results, program):
         patterns = path.with_suffix(".pat")
         if not patterns.exists():
             continue
-        for names in (FIVE, [line.split()[0] for line in (CELLS / "CATAL").read_text().splitlines()]):
+        for names in (FIVE, ALL):
             with Room() as room:
                 files = {**of_cells(names), "s.vbe": path.read_bytes(), "r.vst": b"what was there before\n"}
                 run_mapped(results, room, program, f"the example {path.name}", files, patterns.read_bytes())
@@ -249,8 +257,9 @@ def check_words(results, program):
 
 
 def jobs(program, seed, times):
-    yield check_circuit, (program, seed, 1000)
-    yield check_circuit, (program, seed, 60)
+    yield check_circuit, (program, seed, 1000, FIVE)
+    yield check_circuit, (program, seed, 1000, ALL)
+    yield check_circuit, (program, seed, 60, ALL)
     numbers = range(MACHINES * times)
     for at in range(0, len(numbers), CHUNK):
         yield check_machines, (program, seed, numbers[at : at + CHUNK])

@@ -280,13 +280,14 @@ def writes(words, files):
     return f"{parsed(words).out}.ap", lambda text: written_faults(words, files, text)
 
 
-def report_on(words, files, text):
-    """What a command prints of the layout that it wrote."""
+def tells(words, files, text, printed):
+    """Whether what is printed is the report on the layout that a command wrote."""
     found, source = parsed(words), source_of(parsed(words), files)
     n, _ = read_again(words, files, text)
     cells_found = checked(files, found.folder, found.has_tracks)
     placed = layout.Placed(n, cells_found) if found.has_tracks else Rows(n, cells_found, rows_of(ap.read(text)))
-    return layout.report(source.machine, source.held, n, placed).encode()
+    report = layout.report(source.machine, source.held, n, placed)
+    return [] if bytes(printed) == report.encode() else [f"{bytes(printed)!r} is not {report!r}"]
 
 
 def leaves(words, files, printed):
@@ -324,8 +325,8 @@ def check_laid_out(results, title, words, files, text, printed):
     faults = written_faults(words, files, text)
     results.note(f"{title}: the layout", not faults, f"{faults} of {words} in {text[:3000]!r} for {source[:2000]!r}")
     if not faults:
-        report = report_on(words, files, text)
-        results.note(f"{title}: the report", bytes(printed) == report, f"{bytes(printed)!r} is not {report!r}")
+        faults = tells(words, files, text, printed)
+        results.note(f"{title}: the report", not faults, faults)
 
 
 def random_files(choose):

@@ -148,10 +148,10 @@ def writes(words, files):
     return f"{found.out}.ap", lambda text: flow.written_faults(as_flow(found), {**files, **made(found)}, text)
 
 
-def report_on(words, files, text):
-    """What a command prints of the layout that it wrote."""
+def tells(words, files, text, printed):
+    """Whether what is printed is the report on the layout that a command wrote."""
     found = parsed(words)
-    return flow.report_on(as_flow(found), {**files, **made(found)}, text)
+    return flow.tells(as_flow(found), {**files, **made(found)}, text, printed)
 
 
 def leaves(words, files, printed):
