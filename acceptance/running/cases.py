@@ -51,7 +51,7 @@ def open_file_of(case, words, told):
     if tool and case.status == 0 and tool.writes:
         name, faults_of = tool.writes(words, case.before)
         if tool.tells:
-            faults_of = beside(faults_of, tool.tells, told)
+            faults_of = beside(case, words, faults_of, told)
     elif tool and case.status == STUCK and tool.leaves:
         name, faults_of = tool.leaves(words, case.before, told)
     else:
@@ -59,8 +59,9 @@ def open_file_of(case, words, told):
     return None if name in case.after else (os.path.normpath(name), faults_of)
 
 
-def beside(faults_of, tells, told):
-    return lambda text: [*faults_of(text), *tells(text, told)]
+def beside(case, words, faults_of, told):
+    """The faults of a file, and where it has none those of what is told of it."""
+    return lambda text: faults_of(text) or TOOLS[words[0]].tells(words, case.before, text, told)
 
 
 def full_disk(results, program, case, words, title, told):

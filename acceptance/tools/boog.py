@@ -122,7 +122,7 @@ def written_faults(words, files, text):
     return [*netlist_faults(m, models, n), *layout_faults(n, text)]
 
 
-def tells(text, printed):
+def tells(_words, _files, text, printed):
     """Whether what is printed is the number of instances."""
     count = text.count(b"\nport map (\n")
     return [] if cells_told(printed) == count else [f"{bytes(printed)!r} is told of {count} instances"]
@@ -191,7 +191,7 @@ def run_mapped(results, room, program, title, files, patterns):
         results.note(f"{title}: files behind a refusal", room.held() == {**files, "t.pat": patterns}, "a file changed")
         return
     text = room.held().get("r.vst") or b""
-    faults = [*written_faults(WORDS, files, text), *tells(text, got[1])]
+    faults = [*written_faults(WORDS, files, text), *tells(WORDS, files, text, got[1])]
     results.note(f"{title}: the netlist", not faults, f"{faults} in {text[:3000]!r} for {files['s.vbe'][:2000]!r}")
     if not faults:
         run_beside(results, room, program, title, files, netlist(text, library(files, "lib")), patterns)
