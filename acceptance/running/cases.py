@@ -50,11 +50,18 @@ def open_file_of(case, words, told):
     tool = TOOLS.get(words[0]) if words else None
     if tool and case.status == 0 and tool.writes:
         name, faults_of = tool.writes(words, case.before)
+        if tool.tells:
+            faults_of = beside(case, words, faults_of, told)
     elif tool and case.status == STUCK and tool.leaves:
         name, faults_of = tool.leaves(words, case.before, told)
     else:
         return None
     return None if name in case.after else (os.path.normpath(name), faults_of)
+
+
+def beside(case, words, faults_of, told):
+    """The faults of a file, and where it has none those of what is told of it."""
+    return lambda text: faults_of(text) or TOOLS[words[0]].tells(words, case.before, text, told)
 
 
 def full_disk(results, program, case, words, title, told):

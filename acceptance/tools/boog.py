@@ -1,24 +1,28 @@
 """What the second readers say of `boog`, and what no case of it has: random machines over random libraries, circuits of gates,
-and the netlists that it writes, read again and run beside their sources.
+and the netlists that it writes, read again and run beside their sources. How many cells a netlist has is open, and so the netlist that was
+written is asked.
 """
 
 import itertools
 import random
+import re
 import subprocess
 import sys
 
 from acceptance import cells
 from acceptance.makers.cell_maker import CellMaker
+from acceptance.makers.plain_netlists import has_an_and, plain_netlist, with_a_pin_moved
 from acceptance.makers.random_sources import Maker, changed, flipped
 from acceptance.makers.random_sources import WORDS as SOURCE_WORDS
-from acceptance.meaning.mapping import MOST_SIZE, Graph, Shapes, drawn_graph, drawn_netlist, machine_size
+from acceptance.meaning.mapping import MOST_SIZE, Graph, machine_size, mapping_faults
 from acceptance.readers.words import TOOLS_LINE, command, held, trouble
 from acceptance.running.places import BENCH, CELLS, EXAMPLES
 from acceptance.running.results import Room, compare, run_in, shown
 from acceptance.tools import netlists
-from acceptance.tools.answers import agrees, refusal
+from acceptance.tools.answers import agrees as same_answer
+from acceptance.tools.answers import refusal
 from acceptance.tools.sources import answer
-from share.formats.models import IN, OUT, Refusal, first_missing, first_of, library
+from share.formats.models import IN, OUT, Refusal, first_missing, library
 from share.formats.pat_oracle import machine_of
 from share.formats.vbe_oracle import FILE, Ring
 from share.formats.vhdl_reader import SUPPLIES, Refused
@@ -27,8 +31,10 @@ from share.formats.vst_writer import laid_out
 
 USAGE = "usage: alliance boog SOURCE.vbe -l DIR -o NAME\n"
 FIVE = ["inv_x1", "na2_x1", "zero_x0", "one_x0", "sff1_x4"]
+ALL = [line.split()[0] for line in (CELLS / "CATAL").read_text().splitlines()]
+MORE = [name for name in ALL if name not in FIVE]
 WORDS = ["boog", "s.vbe", "-l", "lib", "-o", "r"]
-MACHINES, CHUNK, VECTORS = 200, 25, 8
+MACHINES, PLAIN, CHUNK, VECTORS = 200, 100, 25, 8
 
 
 # ---- the second answer
@@ -41,16 +47,17 @@ def parsed(words):
 
 
 def of_machine(m, models):
-    """The status and the line on a machine over a library."""
+    """The status and the line on a machine over a library; of a netlist it is (0, the fewest cells that it may have, the most)."""
     size = machine_size(m)
     if size > MOST_SIZE:
         return 9, f"boog: limit: size {size}\n"
     kind = first_missing(models, bool(m.registers))
-    return (4, f"boog: no cover: {kind}\n") if kind else (0, f"cells {Graph(m).cells()}\n")
+    return (4, f"boog: no cover: {kind}\n") if kind else (0, len(m.registers), Graph(m).most_cells())
 
 
 def second(words, files):
-    """What the second readers say of a command over files: (status, text), or (2, Ring) where any of some rings may be named."""
+    """What the second readers say of a command over files: (status, text), or (2, Ring) where any of some rings may be named; of a netlist
+    what of_machine says."""
     found = parsed(words)
     if found is None:
         return 1, USAGE
@@ -70,22 +77,20 @@ def second(words, files):
     return of_machine(m, models)
 
 
+def cells_told(printed):
+    """The number of cells that is printed, or None."""
+    found = re.fullmatch("cells (0|[1-9][0-9]*)\n", bytes(printed).decode(errors="replace"))
+    return int(found[1]) if found else None
+
+
+def agrees(got, wanted):
+    if wanted[0] != 0:
+        return same_answer(got, wanted)
+    told = cells_told(got[1])
+    return got[0] == 0 and told is not None and wanted[1] <= told <= wanted[2]
+
+
 # ---- the netlist that is written
-
-
-def order_faults(n, registers):
-    """Whether instances are q0, q1 and so on, which are flip-flops, then g0, g1 and so on, each of which reads what is before it."""
-    first, others = n.instances[:registers], n.instances[registers:]
-    if [i.name for i in n.instances] != [f"q{k}" for k in range(registers)] + [f"g{k}" for k in range(len(others))]:
-        yield "the names of the instances"
-    if any((i.model.kind == "dff") != (k < registers) or i.model.kind is None for k, i in enumerate(n.instances)):
-        yield "the kinds of the instances"
-    known = {bit for bit, way in n.all_ports.items() if way == IN}
-    known |= {i.nets[bit] for i in first for bit in i.model.outputs}
-    for instance in others:
-        if any(instance.nets[pin] not in known for pin in instance.model.inputs):
-            yield f"the place of {instance.name}"
-        known.update(instance.nets[bit] for bit in instance.model.outputs)
 
 
 def netlist_faults(m, models, n):
@@ -96,15 +101,7 @@ def netlist_faults(m, models, n):
         yield "the ports"
     if n.clock != ((m.clock, -1) if m.registers else None):
         yield f"the clock {n.clock}"
-    graph, shapes = Graph(m), Shapes()
-    if len(n.instances) != graph.cells():
-        yield f"{len(n.instances)} instances, and not {graph.cells()}"
-    if any(i.model is not first_of(models, i.model.kind) for i in n.instances if i.model.kind):
-        yield "a cell that isn't the first of its kind"
-    faults = list(order_faults(n, len(m.registers)))
-    yield from faults
-    if not faults and drawn_graph(shapes, graph) != drawn_netlist(shapes, n):
-        yield "the nodes, or what outputs and registers take"
+    yield from mapping_faults(m, models, n)
 
 
 def layout_faults(n, text):
@@ -125,6 +122,12 @@ def written_faults(words, files, text):
     return [*netlist_faults(m, models, n), *layout_faults(n, text)]
 
 
+def tells(_words, _files, text, printed):
+    """Whether what is printed is the number of instances."""
+    count = text.count(b"\nport map (\n")
+    return [] if cells_told(printed) == count else [f"{bytes(printed)!r} is told of {count} instances"]
+
+
 def writes(words, files):
     """The file that a command writes, with the check of its text."""
     return f"{parsed(words)[2]}.vst", lambda text: written_faults(words, files, text)
@@ -143,7 +146,7 @@ def of_cells(names, folder="lib"):
 def random_files(choose):
     """A library that mostly has a cell of each kind: some of this repository's cells in any order, some made."""
     names = [name for name in FIVE if choose.random() < 0.97]
-    names += choose.sample(["inv_x8", "na3_x1", "sff1_x8", "xr2_x1", "mx2_x2", "buf_x2"], choose.randrange(3))
+    names += choose.sample(MORE, choose.choice([0, 1, 2, 5, 10, len(MORE)]))
     choose.shuffle(names)
     files = of_cells(names)
     made = [CellMaker(choose).cell(name) for name in ["m1", "m2", "m3"][: choose.choice([0, 0, 1, 3])]]
@@ -188,7 +191,7 @@ def run_mapped(results, room, program, title, files, patterns):
         results.note(f"{title}: files behind a refusal", room.held() == {**files, "t.pat": patterns}, "a file changed")
         return
     text = room.held().get("r.vst") or b""
-    faults = written_faults(WORDS, files, text)
+    faults = [*written_faults(WORDS, files, text), *tells(WORDS, files, text, got[1])]
     results.note(f"{title}: the netlist", not faults, f"{faults} in {text[:3000]!r} for {files['s.vbe'][:2000]!r}")
     if not faults:
         run_beside(results, room, program, title, files, netlist(text, library(files, "lib")), patterns)
@@ -204,7 +207,7 @@ def run_beside(results, room, program, title, files, n, patterns):
         results.note(f"{title}: netlist and source in the second readers", is_same, f"{wanted} is not that of {source[:2000]!r}")
         for words in (["asimut", "s.vbe", "-p", "t.pat"], netlists.WORDS):
             got = room.run(program, words)
-            results.note(f"{title}: {words[1]} under patterns", agrees(got, wanted), f"{shown(*got)} is not {wanted} for {source[:2000]!r}")
+            results.note(f"{title}: {words[1]} under patterns", same_answer(got, wanted), f"{shown(*got)} is not {wanted} for {source[:2000]!r}")
     is_other = differs_from(machine_of(source), n, random.Random(len(source)))
     results.note(f"{title}: netlist and source from any contents", not is_other, f"they differ for {source[:2000]!r}")
 
@@ -227,11 +230,11 @@ def check_machines(results, program, seed, numbers):
             run_mapped(results, room, program, "a random source and library", files, maker.pattern_file(choose.randrange(1, 20)).encode())
 
 
-def check_circuit(results, program, seed, gates):
+def check_circuit(results, program, seed, gates, names):
     with Room() as room:
         subprocess.run([sys.executable, BENCH / "asimut_inputs.py", str(gates), "20", room.folder, str(seed)], check=True)
         source, patterns = (room.folder / "c.vbe").read_bytes(), (room.folder / "p.pat").read_bytes()
-        run_mapped(results, room, program, f"{gates} gates", {**of_cells(FIVE), "s.vbe": source}, patterns)
+        run_mapped(results, room, program, f"{gates} gates", {**of_cells(names), "s.vbe": source}, patterns)
 
 
 def check_examples(results, program):
@@ -240,10 +243,29 @@ def check_examples(results, program):
         patterns = path.with_suffix(".pat")
         if not patterns.exists():
             continue
-        for names in (FIVE, [line.split()[0] for line in (CELLS / "CATAL").read_text().splitlines()]):
+        for names in (FIVE, ALL):
             with Room() as room:
                 files = {**of_cells(names), "s.vbe": path.read_bytes(), "r.vst": b"what was there before\n"}
                 run_mapped(results, room, program, f"the example {path.name}", files, patterns.read_bytes())
+
+
+def check_plain(results, seed, numbers):
+    """What is said of netlists that have a cell for each node: over five cells nothing; where they behave otherwise, or over all cells have a
+    nand and an inverter for an and, something."""
+    five, every = library(of_cells(FIVE), "lib"), library(of_cells(ALL), "lib")
+    for number in numbers:
+        choose = random.Random(f"{seed} plain {number}")
+        source = Maker(choose).source().encode()
+        m = machine_of(source)
+        plain = plain_netlist(m, five)
+        faults = list(netlist_faults(m, five, plain))
+        results.note("a cell for each node", not faults, f"{faults} for {source[:2000]!r}")
+        other = with_a_pin_moved(choose, m, plain)
+        is_well = bool(list(mapping_faults(m, five, other))) or not differs_from(m, other, choose)
+        results.note("a netlist with a pin moved", is_well, f"no fault for {source[:2000]!r}")
+        over_every = plain_netlist(m, every)
+        is_well = bool(list(mapping_faults(m, every, over_every))) or not has_an_and(m, over_every)
+        results.note("an and of two cells", is_well, f"no fault for {source[:2000]!r}")
 
 
 def check_words(results, program):
@@ -255,10 +277,12 @@ def check_words(results, program):
 
 
 def jobs(program, seed, times):
-    yield check_circuit, (program, seed, 1000)
-    yield check_circuit, (program, seed, 60)
+    yield check_circuit, (program, seed, 1000, FIVE)
+    yield check_circuit, (program, seed, 1000, ALL)
+    yield check_circuit, (program, seed, 60, ALL)
     numbers = range(MACHINES * times)
     for at in range(0, len(numbers), CHUNK):
         yield check_machines, (program, seed, numbers[at : at + CHUNK])
+    yield check_plain, (seed, range(PLAIN * times))
     yield check_examples, (program,)
     yield check_words, (program,)

@@ -20,6 +20,7 @@ from share.formats.pat_oracle import machine_of
 from share.formats.vst import FILE, netlist
 
 CELLS = [*flow.FIVE, "inv_x2", "no2_x1", "sff1_x8", "xr2_x1"]
+INVERTERS = ["inv_x2", "inv_x4", "inv_x8"]
 LAYOUTS, CHUNK, MOST_SIZE = 5, 1, 90
 TO_NETLIST = ["cougar", "r.ap", "-l", "lib", "-o", "n"]
 TO_COMPARE = ["lvx", "n.vst", "-b", "n0.vst", "-l", "lib"]
@@ -138,14 +139,14 @@ def walk_of(page):
 
 
 def check_walk(results, program):
-    """The example of the changed layouts: its page says what is printed, and its layout is the one that flow draws."""
+    """The example of the changed layouts: its page says what is printed, and its layout is the one that flow draws over nands and inverters."""
     folder = EXAMPLES / "checking"
     names = [line.split()[0] for line in (SHIPPED_CELLS / "CATAL").read_text().splitlines()]
     with Room() as room:
         files = {f"examples/checking/{path.name}": path.read_bytes() for path in folder.iterdir()}
-        room.write({**of_cells(names, "cells"), **files})
+        room.write({**of_cells(names, "cells"), **of_cells([*flow.FIVE, *INVERTERS], "few"), **files})
         (room.folder / "build").mkdir()
-        got = room.run(program, ["flow", "examples/checking/pick.vbe", "-l", "cells", "-o", "build/pick", "--tracks"])
+        got = room.run(program, ["flow", "examples/checking/pick.vbe", "-l", "few", "-o", "build/pick", "--tracks"])
         drawn = (room.folder / "build/pick.ap").read_bytes() if got[0] == 0 else b""
         results.note("the layout of the example", drawn == files["examples/checking/pick.ap"], shown(*got))
         for words, printed in walk_of((folder / "README.md").read_text()):

@@ -1,12 +1,13 @@
 """Which buffers and drives the netlists of layouts have, for the second readers of `flow` and `gen`, written from docs/formats/netlists.md
 and measures.md.
 
-`unbuffered(n, models)` gives the netlist as it was mapped: the instances named b taken out, and for each other one the first cell of its
-kind. `faults(n, models, fanout)` says what of its buffers and drives isn't as it has to be.
+`unbuffered(n, models)` gives the netlist as it was mapped, but for the drives of its gates: the instances named b taken out, and the first
+flip-flop of the library in the place of each of its drives. `faults(n, models, fanout)` says what of the buffers and drives isn't as it has
+to be.
 """
 
 from acceptance.meaning.fanout import counts, limited
-from acceptance.tools.loon import delay_faults, structure_faults
+from acceptance.tools.loon import drive_faults, structure_faults
 from share.formats.models import IN, first_of
 from share.formats.vhdl_reader import SUPPLIES, Refused
 from share.formats.vst import Instance, Netlist
@@ -27,11 +28,19 @@ def in_front(tied, net):
     return net
 
 
+def undriven(model, models):
+    """The first flip-flop of the library for each of its drives; of a gate it isn't known which drive was taken first."""
+    if model.kind != "dff":
+        return model
+    first = first_of(models, "dff")
+    return first if model.can_stand_for(first) else model
+
+
 def unbuffered(n, models):
     """It raises Refused where what is left is no netlist."""
     tied = ties(n)
     left = [
-        Instance(i.name, first_of(models, i.model.kind) if i.model.kind else i.model, {pin: in_front(tied, net) for pin, net in i.nets.items()})
+        Instance(i.name, undriven(i.model, models), {pin: in_front(tied, net) for pin, net in i.nets.items()})
         for i in n.instances
         if not is_buffer(i)
     ]
@@ -49,9 +58,6 @@ def input_counts(n):
 
 
 def faults(n, models, fanout):
-    if any(i.model.kind and not i.model.can_stand_for(first_of(models, i.model.kind)) for i in n.instances if not is_buffer(i)):
-        yield "a cell that is no drive of the first of its kind"
-        return
     most = max(input_counts(n).values(), default=0)
     if most > fanout:
         yield f"{most} input pins read one net"
@@ -66,5 +72,4 @@ def faults(n, models, fanout):
     if items is None:
         yield "buffers, and no cell for them"
         return
-    found = list(structure_faults(plain, n, items, fanout))
-    yield from found or delay_faults(n, items, models, None)
+    yield from list(structure_faults(plain, n, items, fanout)) or drive_faults(n, models)

@@ -15,7 +15,7 @@ from acceptance.makers.random_sources import WORDS as SOURCE_WORDS
 from acceptance.makers.random_states import StateMaker
 from acceptance.makers.random_wide import WideMaker, with_drives
 from acceptance.meaning import diagrams, layout, maze, placing
-from acceptance.meaning.mapping import CHOICE, MOST_SIZE, machine_size
+from acceptance.meaning.mapping import CHOICE, MOST_SIZE, build_faults, machine_size
 from acceptance.meaning.rows import Rows, rows_of
 from acceptance.meaning.state_codes import code_lines
 from acceptance.meaning.state_machine import machine_of as equations_of
@@ -26,7 +26,7 @@ from acceptance.running.results import Room, compare, run_in, shown
 from acceptance.tools import driven
 from acceptance.tools.answers import agrees as same_answer
 from acceptance.tools.answers import refusal
-from acceptance.tools.boog import differs_from, of_cells, order_faults
+from acceptance.tools.boog import differs_from, of_cells
 from acceptance.tools.boom import MOST_NODES, NODES, inner_size
 from acceptance.tools.syf import STYLES, behaviour_faults, codes_of, style_of
 from share.formats import ap, catal, cellcheck, extraction, models
@@ -224,11 +224,12 @@ def netlist_faults(m, of_name, n, fanout):
     plain = [i for i in n.instances if not driven.is_buffer(i)]
     if len(plain) > len(m.registers) + most_gates(m):
         yield f"{len(plain)} registers and gates, and not {most_gates(m)} gates at most"
-    if any(i.model.kind is None for i in plain):
-        yield "a cell of no kind"
+    if not all(i.model.is_usable for i in n.instances):
+        yield "a cell that isn't mappable"
         return
     found = list(driven.faults(n, of_name, fanout))
-    yield from found or order_faults(driven.unbuffered(n, of_name), len(m.registers))
+    # the graph that it covers is that of a smaller machine, and which one is open
+    yield from found or build_faults(m, of_name, driven.unbuffered(n, of_name))
 
 
 def walk_faults(source, n, choose):
@@ -279,6 +280,16 @@ def writes(words, files):
     return f"{parsed(words).out}.ap", lambda text: written_faults(words, files, text)
 
 
+def tells(words, files, text, printed):
+    """Whether what is printed is the report on the layout that a command wrote."""
+    found, source = parsed(words), source_of(parsed(words), files)
+    n, _ = read_again(words, files, text)
+    cells_found = checked(files, found.folder, found.has_tracks)
+    placed = layout.Placed(n, cells_found) if found.has_tracks else Rows(n, cells_found, rows_of(ap.read(text)))
+    report = layout.report(source.machine, source.held, n, placed)
+    return [] if bytes(printed) == report.encode() else [f"{bytes(printed)!r} is not {report!r}"]
+
+
 def leaves(words, files, printed):
     """The file that a command leaves where a net is stuck, as its line says, with the check of its text."""
     stuck = stuck_in(printed)
@@ -314,11 +325,8 @@ def check_laid_out(results, title, words, files, text, printed):
     faults = written_faults(words, files, text)
     results.note(f"{title}: the layout", not faults, f"{faults} of {words} in {text[:3000]!r} for {source[:2000]!r}")
     if not faults:
-        n, _ = read_again(words, files, text)
-        found, cells_found = source_of(parsed(words), files), checked(files, parsed(words).folder, parsed(words).has_tracks)
-        placed = layout.Placed(n, cells_found) if parsed(words).has_tracks else Rows(n, cells_found, rows_of(ap.read(text)))
-        report = layout.report(found.machine, found.held, n, placed)
-        results.note(f"{title}: the report", bytes(printed) == report.encode(), f"{bytes(printed)!r} is not {report!r}")
+        faults = tells(words, files, text, printed)
+        results.note(f"{title}: the report", not faults, faults)
 
 
 def random_files(choose):

@@ -148,6 +148,12 @@ def writes(words, files):
     return f"{found.out}.ap", lambda text: flow.written_faults(as_flow(found), {**files, **made(found)}, text)
 
 
+def tells(words, files, text, printed):
+    """Whether what is printed is the report on the layout that a command wrote."""
+    found = parsed(words)
+    return flow.tells(as_flow(found), {**files, **made(found)}, text, printed)
+
+
 def leaves(words, files, printed):
     """The file that a command leaves where a net is stuck, with the check of its text."""
     found = parsed(words)

@@ -121,14 +121,20 @@ class Ports:
 
 
 def delay_faults(w, items, models, printed):
-    cells = own_cells(w)
-    delay = worst(w, cells)
-    if len(w.instances) <= SMALL and worst_of_all_paths(w, cells) != delay:
-        yield f"the second programs differ on the delay {delay}"
+    delay = worst(w, own_cells(w))
     if printed is not None and printed.split()[-1] != str(delay).encode():
         yield f"the delay {delay} is printed as {printed!r}"
     if delay > worst(w, {item.name: item.model for item in items}):
         yield f"the delay {delay} is greater than before"
+    yield from drive_faults(w, models)
+
+
+def drive_faults(w, models):
+    """Whether the exchange of one instance's cell for another drive of it makes the longest path shorter."""
+    cells = own_cells(w)
+    delay = worst(w, cells)
+    if len(w.instances) <= SMALL and worst_of_all_paths(w, cells) != delay:
+        yield f"the second programs differ on the delay {delay}"
     better = better_exchange(w, cells, models)
     if better:
         yield f"{better} is better than {delay}"

@@ -3,7 +3,8 @@
 A tool that comes gets a line here. `second` answers words over files as (status, printed text), or None where it has no
 answer; `agrees` says whether an answer (status, printed bytes) is that; `jobs` gives the checks that no case has. Where the
 spelling of the file that a tool writes is open, `writes` gives for words over files its name, and a function from its bytes
-to what is wrong with them; `leaves` does so, beside what is printed, for the file that a tool leaves where a net is stuck.
+to what is wrong with them; `leaves` does so, beside what is printed, for the file that a tool leaves where a net is stuck. `tells` gives
+for words, files, the bytes that were written and what was printed, what of this isn't as the bytes have it.
 """
 
 from typing import Callable, NamedTuple
@@ -40,6 +41,7 @@ class Tool(NamedTuple):
     jobs: Callable
     writes: Callable | None = None
     leaves: Callable | None = None
+    tells: Callable | None = None
 
 
 def asimut_jobs(program, seed, times):
@@ -66,10 +68,10 @@ def lvx_jobs(program, seed, times):
 TOOLS = {
     "asimut": Tool(asimut.second, answers.agrees, asimut_jobs),
     "boom": Tool(boom.second, boom.agrees, boom.jobs, boom.writes),
-    "boog": Tool(boog.second, answers.agrees, boog.jobs, boog.writes),
+    "boog": Tool(boog.second, boog.agrees, boog.jobs, boog.writes, tells=boog.tells),
     "cougar": Tool(cougar.second, answers.agrees, cougar.jobs, cougar.writes),
-    "flow": Tool(flow.second, flow.agrees, flow_jobs, flow.writes, flow.leaves),
-    "gen": Tool(gen.second, gen.agrees, gen.jobs, gen.writes, gen.leaves),
+    "flow": Tool(flow.second, flow.agrees, flow_jobs, flow.writes, flow.leaves, flow.tells),
+    "gen": Tool(gen.second, gen.agrees, gen.jobs, gen.writes, gen.leaves, gen.tells),
     "loon": Tool(loon.second, loon.agrees, loon.jobs, loon.writes),
     "ocp": Tool(ocp.second, ocp.agrees, ocp.jobs, ocp.writes),
     "nero": Tool(nero.second, nero.agrees, nero.jobs, nero.writes, nero.leaves),

@@ -37,8 +37,8 @@ def follows(machine, output):
 
 class Model:
     """Pins with their directions, vdd and vss among them; the clock pin or None; for each output the inputs on which it depends
-    at once; whether it is a gate or a plain flip-flop; whether a layout may use it; the kind, where a netlist of inverters and gates of two
-    inputs may use the cell for one; and the numbers of its generics."""
+    at once; whether it is a gate or a plain flip-flop; whether a layout may use it; the kind, where it is one that mapping asks for; and the
+    numbers of its generics."""
 
     def __init__(self, name, cell):
         behaviour = cell.behaviour
