@@ -12,16 +12,23 @@ use Rattle.lvx_run.specs.Words.{lvx, lvx_from}
 use Rattle.druc_run.specs.Words.{druc, druc_from}
 use Rattle.proof_run.specs.Words.{proof, proof_from}
 use Rattle.flatbeh_run.specs.Words.{flatbeh, flatbeh_from}
+use Rattle.s2r_run.specs.Words.{s2r, s2r_from}
 use Rattle.tool_run.specs.declared.words.Command.{Command}
 use Rattle.tool_run.specs.declared.words.Command.TheVariants as command
 use Rattle.tool_run.proofs.Finding.{behind}
 use Rattle.tool_run.proofs.words.read_behind.Goals as goal
 
+abbrev s2r_tool : Tool Command
+s2r_tool = tool s2r command.S2r s2r_from
+
+abbrev from_s2r : List (Tool Command)
+from_s2r = s2r_tool ∷ []
+
 abbrev flatbeh_tool : Tool Command
 flatbeh_tool = tool flatbeh command.Flatbeh flatbeh_from
 
 abbrev from_flatbeh : List (Tool Command)
-from_flatbeh = flatbeh_tool ∷ []
+from_flatbeh = flatbeh_tool ∷ from_s2r
 
 abbrev proof_tool : Tool Command
 proof_tool = tool proof command.Proof proof_from
@@ -220,12 +227,24 @@ returns-then-is_same-11-clause-ok c =
 
 pub returns-in_err-read_asked-12-clause-usage : goal.returns-in_err-read_asked-12-clause-usage
 returns-in_err-read_asked-12-clause-usage c usage =
-    behind c.args.tool.now c.args.words.now (syf_tool ∷ boom_tool ∷ boog_tool ∷ loon_tool ∷ ocp_tool ∷ nero_tool ∷ asimut_tool ∷ cougar_tool ∷ lvx_tool ∷ druc_tool ∷ proof_tool ∷ []) flatbeh_tool [] None
+    behind c.args.tool.now c.args.words.now (syf_tool ∷ boom_tool ∷ boog_tool ∷ loon_tool ∷ ocp_tool ∷ nero_tool ∷ asimut_tool ∷ cougar_tool ∷ lvx_tool ∷ druc_tool ∷ proof_tool ∷ []) flatbeh_tool from_s2r None
     (sym c.is_same.ensures ∙ c.if-is_same.false, (sym c.is_same-2.ensures ∙ c.if-is_same-2.false, (sym c.is_same-3.ensures ∙ c.if-is_same-3.false, (sym c.is_same-4.ensures ∙ c.if-is_same-4.false, (sym c.is_same-5.ensures ∙ c.if-is_same-5.false, (sym c.is_same-6.ensures ∙ c.if-is_same-6.false, (sym c.is_same-7.ensures ∙ c.if-is_same-7.false, (sym c.is_same-8.ensures ∙ c.if-is_same-8.false, (sym c.is_same-9.ensures ∙ c.if-is_same-9.false, (sym c.is_same-10.ensures ∙ c.if-is_same-10.false, (sym c.is_same-11.ensures ∙ c.if-is_same-11.false, tt)))))))))))
     (sym c.is_same-12.ensures ∙ c.if-is_same-12.true) (ap (option_map command.Flatbeh) (c.in_err-read_asked-12.ensures.usage (search rules)))
 
 pub returns-then-is_same-12-clause-ok : goal.returns-then-is_same-12-clause-ok
 returns-then-is_same-12-clause-ok c =
-    behind c.args.tool.now c.args.words.now (syf_tool ∷ boom_tool ∷ boog_tool ∷ loon_tool ∷ ocp_tool ∷ nero_tool ∷ asimut_tool ∷ cougar_tool ∷ lvx_tool ∷ druc_tool ∷ proof_tool ∷ []) flatbeh_tool []
+    behind c.args.tool.now c.args.words.now (syf_tool ∷ boom_tool ∷ boog_tool ∷ loon_tool ∷ ocp_tool ∷ nero_tool ∷ asimut_tool ∷ cougar_tool ∷ lvx_tool ∷ druc_tool ∷ proof_tool ∷ []) flatbeh_tool from_s2r
     (Some (command.Flatbeh c.in_ok-read_asked-12.field-0)) (sym c.is_same.ensures ∙ c.if-is_same.false, (sym c.is_same-2.ensures ∙ c.if-is_same-2.false, (sym c.is_same-3.ensures ∙ c.if-is_same-3.false, (sym c.is_same-4.ensures ∙ c.if-is_same-4.false, (sym c.is_same-5.ensures ∙ c.if-is_same-5.false, (sym c.is_same-6.ensures ∙ c.if-is_same-6.false, (sym c.is_same-7.ensures ∙ c.if-is_same-7.false, (sym c.is_same-8.ensures ∙ c.if-is_same-8.false, (sym c.is_same-9.ensures ∙ c.if-is_same-9.false, (sym c.is_same-10.ensures ∙ c.if-is_same-10.false, (sym c.is_same-11.ensures ∙ c.if-is_same-11.false, tt)))))))))))
     (sym c.is_same-12.ensures ∙ c.if-is_same-12.true) (ap (option_map command.Flatbeh) c.in_ok-read_asked-12.ensures.ok)
+
+pub returns-in_err-read_asked-13-clause-usage : goal.returns-in_err-read_asked-13-clause-usage
+returns-in_err-read_asked-13-clause-usage c usage =
+    behind c.args.tool.now c.args.words.now (syf_tool ∷ boom_tool ∷ boog_tool ∷ loon_tool ∷ ocp_tool ∷ nero_tool ∷ asimut_tool ∷ cougar_tool ∷ lvx_tool ∷ druc_tool ∷ proof_tool ∷ flatbeh_tool ∷ []) s2r_tool [] None
+    (sym c.is_same.ensures ∙ c.if-is_same.false, (sym c.is_same-2.ensures ∙ c.if-is_same-2.false, (sym c.is_same-3.ensures ∙ c.if-is_same-3.false, (sym c.is_same-4.ensures ∙ c.if-is_same-4.false, (sym c.is_same-5.ensures ∙ c.if-is_same-5.false, (sym c.is_same-6.ensures ∙ c.if-is_same-6.false, (sym c.is_same-7.ensures ∙ c.if-is_same-7.false, (sym c.is_same-8.ensures ∙ c.if-is_same-8.false, (sym c.is_same-9.ensures ∙ c.if-is_same-9.false, (sym c.is_same-10.ensures ∙ c.if-is_same-10.false, (sym c.is_same-11.ensures ∙ c.if-is_same-11.false, (sym c.is_same-12.ensures ∙ c.if-is_same-12.false, tt))))))))))))
+    (sym c.is_same-13.ensures ∙ c.if-is_same-13.true) (ap (option_map command.S2r) (c.in_err-read_asked-13.ensures.usage (search rules)))
+
+pub returns-then-is_same-13-clause-ok : goal.returns-then-is_same-13-clause-ok
+returns-then-is_same-13-clause-ok c =
+    behind c.args.tool.now c.args.words.now (syf_tool ∷ boom_tool ∷ boog_tool ∷ loon_tool ∷ ocp_tool ∷ nero_tool ∷ asimut_tool ∷ cougar_tool ∷ lvx_tool ∷ druc_tool ∷ proof_tool ∷ flatbeh_tool ∷ []) s2r_tool []
+    (Some (command.S2r c.in_ok-read_asked-13.field-0)) (sym c.is_same.ensures ∙ c.if-is_same.false, (sym c.is_same-2.ensures ∙ c.if-is_same-2.false, (sym c.is_same-3.ensures ∙ c.if-is_same-3.false, (sym c.is_same-4.ensures ∙ c.if-is_same-4.false, (sym c.is_same-5.ensures ∙ c.if-is_same-5.false, (sym c.is_same-6.ensures ∙ c.if-is_same-6.false, (sym c.is_same-7.ensures ∙ c.if-is_same-7.false, (sym c.is_same-8.ensures ∙ c.if-is_same-8.false, (sym c.is_same-9.ensures ∙ c.if-is_same-9.false, (sym c.is_same-10.ensures ∙ c.if-is_same-10.false, (sym c.is_same-11.ensures ∙ c.if-is_same-11.false, (sym c.is_same-12.ensures ∙ c.if-is_same-12.false, tt))))))))))))
+    (sym c.is_same-13.ensures ∙ c.if-is_same-13.true) (ap (option_map command.S2r) c.in_ok-read_asked-13.ensures.ok)
