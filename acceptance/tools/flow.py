@@ -1,8 +1,9 @@
 """What the second readers say of `flow`, and what no case of it has: random machines and state machines over random libraries, large and
 small sources, nets that many pins read, and the layouts that it writes, read again: extracted, compared with a second drawing, and run
 beside their sources. Of a state machine a layout is run beside the walk too: from the codes of states, and behind a reset from any
-contents. Of each netlist driven.py says which buffers and drives it has to have. What is run here has tracks; maze.py runs the same over
-rows, where a layout is read by a second router and its placement tried for exchanges, and one in which a net is stuck by its marks.
+contents. Of each netlist mapping.py says how its gates have to be, and driven.py which buffers and drives it has to have. What is run
+here has tracks; maze.py runs the same over rows, where a layout is read by a second router and its placement tried for exchanges, and one
+in which a net is stuck by its marks.
 """
 
 import random
@@ -41,7 +42,7 @@ from share.formats.vst import Netlist
 ROW = ROWS / "flow-layouts/one-inverter.txt"
 USAGE = "usage: alliance flow SOURCE.vbe|.fsm -l DIR -o NAME [-e o|r|j] [--tracks] [--rows 1..256] [--metals 4..6] [--seed 0..4294967295] [--moves 0..1000000] [--nodes 1..4000000] [--fanout 4..1000000]\n"
 FIVE = ["inv_x1", "na2_x1", "zero_x0", "one_x0", "sff1_x4"]
-MORE = ["inv_x8", "na3_x1", "sff1_x8", "xr2_x1", "mx2_x2", "buf_x2"]
+MORE = ["inv_x8", "na3_x1", "sff1_x8", "xr2_x1", "mx2_x2", "buf_x2", "a2_x2", "o3_x2", "no2_x1", "nao22_x1", "noa2a22_x1"]
 WORDS = ["flow", "s.vbe", "-l", "lib", "-o", "r", "--tracks"]
 BOUNDS = {"--rows": (1, 256), "--metals": (4, 6), "--moves": (0, 1000000), "--fanout": (4, 1000000), "--nodes": (1, MOST_NODES)}
 OPTIONS = {"-l": "", "-o": "", "-e": "", "--seed": ""} | dict.fromkeys(BOUNDS, "")
@@ -333,7 +334,7 @@ def random_files(choose):
     """A library that mostly has a cell of each kind, in any order, now and then with made drives of some, and sometimes a file that is
     spoilt."""
     names = [name for name in FIVE if choose.random() < 0.97]
-    names += choose.sample(MORE, choose.randrange(3))
+    names += choose.sample(MORE, choose.randrange(5))
     choose.shuffle(names)
     files = with_drives(choose, names) if choose.random() < 0.3 else of_cells(names)
     if choose.random() < 0.05:
