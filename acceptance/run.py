@@ -1,10 +1,10 @@
 #!/usr/bin/env python3
 """Runs the built programs on real files and on many texts.
 
-Usage: acceptance/run.py PROGRAM FRONT_PROBE [CELL_PROBE] [--many] [--seed N]
+Usage: acceptance/run.py PROGRAM FRONT_PROBE [CELL_PROBE [MAZE_PROBE]] [--many] [--seed N]
 
 PROGRAM is `alliance`, FRONT_PROBE the program that reads fronts of VHDL texts, CELL_PROBE the one that reads ap files and
-libraries, of which cells.py says what it prints. Run are the cases of crates/cases/data and of
+libraries, of which cells.py says what it prints, MAZE_PROBE the one that routes nets over empty grids (moves.py). Run are the cases of crates/cases/data and of
 acceptance/large, each as its file says; each again with a folder in the place of every file that it reads or writes, with
 that file missing, and with a full output; each tool where something of the machine fails (tools/real_faults.py); the second readers on
 the same cases; and then the texts that each tool's module makes. Each language has one second reader, written from docs/FORMATS.md in this
@@ -23,7 +23,7 @@ import traceback
 from multiprocessing import Pool
 
 sys.path[0] = str(pathlib.Path(__file__).resolve().parent.parent)
-from acceptance import cells  # noqa: E402
+from acceptance import cells, moves  # noqa: E402
 from acceptance.running import documents, front  # noqa: E402
 from acceptance.running.case_file import case_files  # noqa: E402
 from acceptance.running.cases import check_case  # noqa: E402
@@ -35,7 +35,7 @@ from acceptance.tools.table import TOOLS  # noqa: E402
 MOST_SHOWN = 40
 
 
-def jobs_of(program, probe, cell_probe, seed, times):
+def jobs_of(program, probe, cell_probe, maze_probe, seed, times):
     """Functions with what they are given behind the results, the longest first."""
     yield documents.check, ()
     yield from pages.jobs(program)
@@ -46,6 +46,7 @@ def jobs_of(program, probe, cell_probe, seed, times):
     yield from cut_files.jobs(program)
     yield from front.jobs(probe, seed, times)
     yield from cells.jobs(cell_probe, seed, cells.COUNT * times)
+    yield from moves.jobs(maze_probe, seed, times)
     for tool in TOOLS.values():
         yield from tool.jobs(program, seed, times)
     for path in case_files():
@@ -67,13 +68,15 @@ def main():
     reader.add_argument("program", type=pathlib.Path)
     reader.add_argument("front_probe", type=pathlib.Path)
     reader.add_argument("cell_probe", type=pathlib.Path, nargs="?")
+    reader.add_argument("maze_probe", type=pathlib.Path, nargs="?")
     reader.add_argument("--many", action="store_true")
     reader.add_argument("--seed", type=int, default=1)
     given = reader.parse_args()
     for program in (given.program, given.front_probe):
         if not os.access(program, os.X_OK):
             reader.error(f"{program} can't be run")
-    programs = str(given.program.resolve()), str(given.front_probe.resolve()), cells.runnable(given.cell_probe)
+    probes = cells.runnable(given.cell_probe), cells.runnable(given.maze_probe)
+    programs = str(given.program.resolve()), str(given.front_probe.resolve()), *probes
     jobs = list(jobs_of(*programs, given.seed, 10 if given.many else 1))
     total = Results()
     with Pool(os.cpu_count()) as pool:

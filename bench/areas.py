@@ -2,6 +2,7 @@
 """How many cells a netlist has, and how many columns of 500 they are wide.
 
 Usage: bench/areas.py N.vst|N.blif LIBRARY      prints both; a BLIF is what abc writes after mapping to the library
+       bench/areas.py --gates N.vst LIBRARY     prints those of gates alone: neither of cells with registers nor of cells without inputs
        bench/areas.py --genlib LIBRARY          writes the library's gates as abc's genlib, with columns as areas
 
 A register of a BLIF counts as the library's narrowest flip-flop.
@@ -52,12 +53,22 @@ def models_of(path, library):
     return re.findall(r"^\.gate\s+(\w+)", text, re.MULTILINE) + [register] * len(re.findall(r"^\.(?:m?latch)\b", text, re.MULTILINE))
 
 
+def gates_of(path, library):
+    cells = files.library(library)
+    return [model for model in models_of(path, library) if cells[model.lower()].inputs and not cells[model.lower()].registers]
+
+
 def main():
-    if len(sys.argv) != 3:
+    words = sys.argv[1:]
+    if len(words) == 3 and words[0] == "--gates":
+        found, words = gates_of(*words[1:]), words[1:]
+    elif len(words) != 2:
         sys.exit(__doc__)
-    if sys.argv[1] == "--genlib":
-        return genlib(sys.argv[2])
-    found, wide = models_of(sys.argv[1], sys.argv[2]), widths(sys.argv[2])
+    elif words[0] == "--genlib":
+        return genlib(words[1])
+    else:
+        found = models_of(*words)
+    wide = widths(words[1])
     print(len(found), sum(wide[model.lower()] for model in found))
 
 

@@ -15,6 +15,7 @@ from acceptance.tools.flow import FIVE  # noqa: E402
 
 MEMORY, EVERY = 8, 1 << 62
 PATTERNS = b"in i;\nout nq;\nbegin\n< 0 ns> p : 0 ?1;\n< 10 ns> : 1 ?0;\nend;\n"
+NEAR = b"V ALLIANCE : 6\nH d,P,01/01/2000,100\nA 0,0,9000,9000\nS 0,0,9000,0,200,*,RIGHT,ALU2\nS 0,300,9000,300,200,*,RIGHT,ALU2\nEOF\n"
 RUNS = [
     ("flow row1.vbe -l lib -o n --tracks", {"n.ap"}, 0),
     ("flow row1.vbe -l lib -o n", {"n.ap"}, 0),
@@ -28,26 +29,42 @@ RUNS = [
     ("loon r.vst -l lib -o n", {"n.vst"}, 0),
     ("ocp r.vst -l lib -o n", {"n.ap"}, 0),
     ("nero r.vst -p p.ap -l lib -o n", {"n.ap"}, 0),
+    ("nero r.vst -p t.ap -l lib -o n", set(), 2),
     ("cougar out.ap -l lib -o n", {"n.vst"}, 0),
     ("flatbeh r.vst -l lib -o n", {"n.vbe"}, 0),
     ("s2r out.ap -p t.real -l lib -o n", {"n.cif"}, 0),
+    ("fmi lock.fsm -o n", {"n.fsm"}, 0),
+    ("rip r.vst -p p.ap -l lib -o n", {"n.ap"}, 0),
+    ("rip w.vst -p w.ap -l lib -o n --metals 4 --rips 2", {"n_part.ap"}, 6),
+    ("scapin two.vst -p two.path -l lib -o n", {"n.vst"}, 0),
+    ("scapin two.vst -p back.path -l lib -o n", set(), 2),
     ("asimut row1.vbe -p t.pat", set(), 0),
     ("asimut r.vst -p t.pat -l lib", set(), 2),
     ("asimut r.vst -p u.pat -l lib", set(), 0),
     ("lvx r.vst -b r.vst -l lib", set(), 0),
+    ("lvx r.vst -b o.vst -l lib", set(), 11),
     ("druc out.ap -l lib", set(), 0),
+    ("druc d.ap -l lib", set(), 11),
     ("proof row1.vbe -b row1.vbe", set(), 0),
+    ("proof row1.vbe -b o.vbe", set(), 11),
+    ("area row1.vbe -l lib", set(), 0),
 ]
 
 
 def all_files():
-    """The files of all runs: those of two worked cases, a library of five cells, and one without a nand."""
+    """The files of all runs: those of four worked cases, a library of five cells, and one without a nand."""
     flow, nero = (Case(ROWS / f"{case}.txt") for case in ("flow-layouts/one-inverter", "nero-runs/one-inverter"))
+    wide = Case(ROWS / "rip-faults/forty-inverters-on-four-metals.txt")
     few = of_cells([name for name in FIVE if name != "na2_x1"], "few")
     named = {"row1.vbe": flow.before["row1.vbe"], "out.ap": flow.after["out.ap"], "r.vst": nero.before["r.vst"], "p.ap": nero.before["p.ap"]}
+    other = {"o.vst": named["r.vst"].replace(b"g0", b"g1"), "o.vbe": named["row1.vbe"].replace(b"not", b"")}
+    near = {"d.ap": NEAR, "t.ap": named["p.ap"].replace(b"EOF", b"S 0,0,1000,0,200,*,RIGHT,ALU2\nEOF")}
+    two = Case(ROWS / "scapin-runs/two-registers.txt")
+    named |= {"two.vst": two.before["one.vst"], "two.path": two.before["one.path"], "back.path": b"q1\nq0\nq1\n"}
+    named |= {"w.vst": wide.before["r.vst"], "w.ap": wide.before["p.ap"]}
     made = {"s.fsm": syf.ring(3), "t.pat": PATTERNS, "t.real": b"scale 2\ngrow 10 10 10 10 10 10\n", "u.pat": PATTERNS.replace(b"in i", b"in a").replace(b"out nq", b"out y")}
     sources = {path.name: path.read_bytes() for path in (EXAMPLES / "lock/lock.fsm", EXAMPLES / "stuck/wide40.vbe")}
-    return {**of_cells(FIVE), **few, **named, **made, **sources}
+    return {**of_cells(FIVE), **few, **named, **other, **near, **made, **sources}
 
 
 class Refusing:

@@ -2,7 +2,7 @@
 
 import os
 
-TOOLS_LINE = "usage: alliance flow|gen|syf|boom|boog|loon|ocp|nero|asimut|cougar|lvx|druc|proof|flatbeh|s2r ARGUMENTS\n"
+TOOLS_LINE = "usage: alliance flow|gen|syf|boom|boog|loon|ocp|nero|asimut|cougar|lvx|druc|proof|flatbeh|s2r|scapin|fmi|rip|area ARGUMENTS\n"
 
 
 def option_of(word):

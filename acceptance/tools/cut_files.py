@@ -11,8 +11,8 @@ from acceptance.tools import syf
 from acceptance.tools.table import TOOLS
 
 FAULT, LIBRARY = 2, 3
-FLOW, OCP, NERO = "flow-layouts/one-inverter", "ocp-runs/one-inverter", "nero-runs/one-inverter"
-ENDS = {"vbe": b";", "vst": b";", "fsm": b";", "pat": b";", "ap": b"F"}
+FLOW, OCP, NERO, SCAN = "flow-layouts/one-inverter", "ocp-runs/one-inverter", "nero-runs/one-inverter", "scapin-runs/two-registers"
+ENDS = {"vbe": b";", "vst": b";", "fsm": b";", "pat": b";", "ap": b"F", "path": b"1"}
 TABLE = b"scale 2\ngrow 10 10 10 10 10 10\n"
 PATTERNS = "in {0};\nout {1};\nbegin\n< 0 ns> p : 0 ?1;\n< 10 ns> : 1 ?0;\nend;\n"
 # the words, the case that has the files, and the file that is cut
@@ -38,6 +38,12 @@ RUNS = [
     ("lvx r.vst -b o.vst -l lib", OCP, "o.vst"),
     ("nero r.vst -p p.ap -l lib -o n", NERO, "r.vst"),
     ("nero r.vst -p p.ap -l lib -o n", NERO, "p.ap"),
+    ("scapin one.vst -p one.path -l lib -o n", SCAN, "one.vst"),
+    ("scapin one.vst -p one.path -l lib -o n", SCAN, "one.path"),
+    ("fmi s.fsm -o n", FLOW, "s.fsm"),
+    ("rip r.vst -p p.ap -l lib -o n", NERO, "r.vst"),
+    ("rip r.vst -p p.ap -l lib -o n", NERO, "p.ap"),
+    ("area row1.vbe -l lib", FLOW, "row1.vbe"),
 ]
 
 

@@ -21,11 +21,12 @@ SMALL, LARGE = 20, 300
 FILE, MEMORY, LIMIT = 7, 8, 9
 SHORT = 1048576
 PATTERNS = b"in ck;\nin x (3 downto 0) X;\nout y (3 downto 0) X;\nbegin\n< 0 ns> p : 0 0 ?*;\n< 5 ns> : 1 a ?*;\nend;\n"
+PATH = b"q0\nq1\nq2\nq3\n"
 TABLE = b"scale 2\ngrow 10 10 10 10 10 10\n"
 MOST_MEMORY, MEMORY_SIZES, MEMORY_STEP = 4 << 30, 20, 1 << 16
 REWRITTEN = 5
 ENDINGS = {"flow": ["ap"], "gen": ["vbe", "ap"], "syf": ["vbe"], "boom": ["vbe"], "boog": ["vst"], "loon": ["vst"], "ocp": ["ap"], "nero": ["ap"]}
-ENDINGS |= {"cougar": ["vst"], "flatbeh": ["vbe"], "s2r": ["cif"]}
+ENDINGS |= {"cougar": ["vst"], "flatbeh": ["vbe"], "s2r": ["cif"], "scapin": ["vst"], "fmi": ["fsm"], "rip": ["ap"]}
 LINES = [
     "flow g.vbe -l lib -o r --tracks",
     "flow g.vbe -l lib -o r --moves 100",
@@ -41,11 +42,15 @@ LINES = [
     "cougar g.ap -l lib -o r",
     "flatbeh n.vst -l lib -o r",
     "s2r g.ap -p t.real -l lib -o r",
+    "scapin n.vst -p n.path -l lib -o r",
+    "fmi s.fsm -o r",
+    "rip n.vst -p p.ap -l lib -o r",
     "asimut g.vbe -p t.pat",
     "asimut n.vst -p t.pat -l lib",
     "lvx n.vst -b n.vst -l lib",
     "druc g.ap -l lib",
     "proof g.vbe -b g.vbe",
+    "area g.vbe -l lib",
 ]
 STUCK = "flow wide40.vbe -l lib -o r --rows 1 --metals 4"
 
@@ -83,7 +88,7 @@ class Plain(NamedTuple):
 def made_files(program, size):
     """A circuit, its netlist, its placement and its layout, made by the program, and a state machine; None where that fails."""
     with Room() as room:
-        room.write({**of_cells(FIVE), "s.fsm": syf.fork(16), "t.pat": PATTERNS, "t.real": TABLE, "wide40.vbe": (EXAMPLES / "stuck/wide40.vbe").read_bytes()})
+        room.write({**of_cells(FIVE), "s.fsm": syf.fork(16), "t.pat": PATTERNS, "t.real": TABLE, "n.path": PATH, "wide40.vbe": (EXAMPLES / "stuck/wide40.vbe").read_bytes()})
         for line in (f"gen --size {size} -l lib -o g --tracks", "boog g.vbe -l lib -o n", "ocp n.vst -l lib -o p --moves 100"):
             if room.run(program, line.split())[0] != 0:
                 return None
@@ -330,7 +335,7 @@ def check_changes(results, program, plain):
 
 def endless(plain):
     """The files that may have no more than 1,048,576 bytes, but for what a cell has."""
-    short = [name for name in plain.words if name in plain.files and name.endswith((".vbe", ".fsm", ".pat"))]
+    short = [name for name in plain.words if name in plain.files and name.endswith((".vbe", ".fsm", ".pat", ".path"))]
     return list(dict.fromkeys(short + ["lib/CATAL"] * (("-l" in plain.words) and plain.tool != "gen")))
 
 

@@ -11,6 +11,7 @@ from typing import Callable, NamedTuple
 
 from acceptance.tools import (
     answers,
+    area,
     asimut,
     boog,
     boom,
@@ -21,6 +22,7 @@ from acceptance.tools import (
     flatbeh,
     flow,
     flow_limits,
+    fmi,
     gen,
     loon,
     lvx,
@@ -29,7 +31,9 @@ from acceptance.tools import (
     net_jobs,
     ocp,
     proof,
+    rip,
     s2r,
+    scapin,
     second_router,
     syf,
 )
@@ -81,4 +85,8 @@ TOOLS = {
     "flatbeh": Tool(flatbeh.second, flatbeh.agrees, flatbeh.jobs, flatbeh.writes),
     "s2r": Tool(s2r.second, answers.agrees, s2r.jobs, s2r.writes),
     "syf": Tool(syf.second, answers.agrees, syf.jobs, syf.writes),
+    "scapin": Tool(scapin.second, answers.agrees, scapin.jobs, scapin.writes),
+    "fmi": Tool(fmi.second, answers.agrees, fmi.jobs, fmi.writes),
+    "rip": Tool(rip.second, rip.agrees, rip.jobs, rip.writes, rip.leaves, rip.tells),
+    "area": Tool(area.second, answers.agrees, area.jobs),
 }

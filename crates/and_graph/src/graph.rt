@@ -80,6 +80,11 @@ impl AndGraph {
             .saturating_add(1)
     }
 
+    /// The number behind that of the last node.
+    pub fn numbers(&self) -> u32 {
+        u32::try_from(self.nodes()).unwrap_or(u32::MAX)
+    }
+
     /// The signal of input k.
     pub fn input(&self, k: u32) -> Signal {
         Signal::node(k.wrapping_add(1))

@@ -10,4 +10,4 @@ mod readers;
 
 pub use building::signal_of;
 pub use graph::{AndGraph, Gate, Signal};
-pub use readers::Readers;
+pub use readers::{Count, Readers};

@@ -1,13 +1,13 @@
 // How often the nodes of a graph are read, as roots are put in and taken out.
 
-use crate::graph::{AndGraph, Signal};
+use crate::graph::{AndGraph, Gate, Signal};
 use std::alloc::{AllocError, Global};
 
-// How often a node and its inverse are read.
+/// How often a node and its inverse are read.
 #[derive(Clone, Copy)]
-struct Count {
-    plain: u32,
-    inverse: u32,
+pub struct Count {
+    pub plain: u32,
+    pub inverse: u32,
 }
 
 const UNREAD: Count = Count {
@@ -21,7 +21,8 @@ const UNREAD: Count = Count {
 #[derive(Drop)]
 pub struct Readers {
     counts: Vec<Count>,
-    needed: usize,
+    gates: usize,
+    inverters: usize,
 }
 
 impl Readers {
@@ -29,29 +30,47 @@ impl Readers {
     pub fn new(alloc: Global, graph: &AndGraph) -> Result<Self, AllocError> {
         Ok(Readers {
             counts: vec![in alloc; UNREAD; graph.nodes()]?,
-            needed: 0,
+            gates: 0,
+            inverters: 0,
         })
+    }
+
+    /// Goes on with a graph that has more gates. Takes memory for these.
+    pub fn extend(&mut self, graph: &AndGraph) -> Result<(), AllocError> {
+        for _ in self.counts.len()..graph.nodes() {
+            self.counts.push(UNREAD)?;
+        }
+        Ok(())
     }
 
     /// How many gates and inverters the roots need.
     pub fn needed(&self) -> usize {
-        self.needed
+        self.gates.saturating_add(self.inverters)
+    }
+
+    /// The same with each gate counted twice, since cells take inverters in.
+    pub fn weight(&self) -> usize {
+        self.needed().saturating_add(self.gates)
+    }
+
+    /// How often a node is read, and how often its inverse.
+    pub fn count(&self, number: u32) -> Count {
+        self.counts.get(number as usize).copied().unwrap_or(UNREAD)
     }
 
     /// How often a node is read, as it stands or inversely.
     pub fn times(&self, number: u32) -> u32 {
-        match self.counts.get(number as usize) {
-            Some(count) => count.plain.saturating_add(count.inverse),
-            None => 0,
-        }
+        let count = self.count(number);
+        count.plain.saturating_add(count.inverse)
     }
 
     // Counts a further reader. The gate of the node where nothing read it before.
-    fn read_once(&mut self, graph: &AndGraph, signal: Signal) -> bool {
+    fn read_once(&mut self, graph: &AndGraph, signal: Signal) -> Option<Gate> {
         let number = signal.number();
-        let is_gate = graph.gate(number).is_some();
+        let gate = graph.gate(number);
+        let is_gate = gate.is_some();
         let Some(count) = self.counts.get_mut(number as usize) else {
-            return false;
+            return None;
         };
         let was_read = count.plain > 0 || count.inverse > 0;
         let was_here = if signal.is_inverse() {
@@ -65,20 +84,22 @@ impl Readers {
             count.plain = count.plain.saturating_add(1);
         }
         if number > 0 && !was_here && signal.is_inverse() != is_gate {
-            self.needed = self.needed.saturating_add(1);
+            self.inverters = self.inverters.saturating_add(1);
         }
-        if is_gate && !was_read {
-            self.needed = self.needed.saturating_add(1);
+        if was_read || !is_gate {
+            return None;
         }
-        is_gate && !was_read
+        self.gates = self.gates.saturating_add(1);
+        gate
     }
 
-    // Takes a reader away. Whether the node's gate is needed no more.
-    fn leave_once(&mut self, graph: &AndGraph, signal: Signal) -> bool {
+    // Takes a reader away. The gate of the node where that is needed no more.
+    fn leave_once(&mut self, graph: &AndGraph, signal: Signal) -> Option<Gate> {
         let number = signal.number();
-        let is_gate = graph.gate(number).is_some();
+        let gate = graph.gate(number);
+        let is_gate = gate.is_some();
         let Some(count) = self.counts.get_mut(number as usize) else {
-            return false;
+            return None;
         };
         if signal.is_inverse() {
             count.inverse = count.inverse.saturating_sub(1);
@@ -92,12 +113,13 @@ impl Readers {
         };
         let is_read = count.plain > 0 || count.inverse > 0;
         if number > 0 && !is_here && signal.is_inverse() != is_gate {
-            self.needed = self.needed.saturating_sub(1);
+            self.inverters = self.inverters.saturating_sub(1);
         }
-        if is_gate && !is_read {
-            self.needed = self.needed.saturating_sub(1);
+        if is_read || !is_gate {
+            return None;
         }
-        is_gate && !is_read
+        self.gates = self.gates.saturating_sub(1);
+        gate
     }
 
     /// Puts a root in. Takes time for the gates that nothing else needs.
@@ -107,16 +129,17 @@ impl Readers {
         graph: &AndGraph,
         root: Signal,
     ) -> Result<(), AllocError> {
+        let Some(gate) = self.read_once(graph, root) else {
+            return Ok(());
+        };
         let mut waiting = Vec::new(alloc);
-        waiting.push(root)?;
+        waiting.push(gate.left)?;
+        waiting.push(gate.right)?;
         for _ in 0..u64::MAX {
             let Some(signal) = waiting.pop() else {
                 break;
             };
-            if !self.read_once(graph, signal) {
-                continue;
-            }
-            if let Some(gate) = graph.gate(signal.number()) {
+            if let Some(gate) = self.read_once(graph, signal) {
                 waiting.push(gate.left)?;
                 waiting.push(gate.right)?;
             }
@@ -131,19 +154,54 @@ impl Readers {
         graph: &AndGraph,
         root: Signal,
     ) -> Result<(), AllocError> {
+        let Some(gate) = self.leave_once(graph, root) else {
+            return Ok(());
+        };
         let mut waiting = Vec::new(alloc);
-        waiting.push(root)?;
+        waiting.push(gate.left)?;
+        waiting.push(gate.right)?;
         for _ in 0..u64::MAX {
             let Some(signal) = waiting.pop() else {
                 break;
             };
-            if !self.leave_once(graph, signal) {
-                continue;
-            }
-            if let Some(gate) = graph.gate(signal.number()) {
+            if let Some(gate) = self.leave_once(graph, signal) {
                 waiting.push(gate.left)?;
                 waiting.push(gate.right)?;
             }
+        }
+        Ok(())
+    }
+
+    /// Puts a signal in as a root so many times, and its inverse.
+    pub fn read_times(
+        &mut self,
+        alloc: Global,
+        graph: &AndGraph,
+        root: Signal,
+        count: Count,
+    ) -> Result<(), AllocError> {
+        for _ in 0..count.plain {
+            self.read(alloc, graph, root)?;
+        }
+        for _ in 0..count.inverse {
+            self.read(alloc, graph, root.inverse())?;
+        }
+        Ok(())
+    }
+
+    /// Takes a signal out that was put in so many times, and its inverse.
+    pub fn leave_times(
+        &mut self,
+        alloc: Global,
+        graph: &AndGraph,
+        root: Signal,
+        count: Count,
+    ) -> Result<(), AllocError> {
+        for _ in 0..count.plain {
+            self.leave(alloc, graph, root)?;
+        }
+        for _ in 0..count.inverse {
+            self.leave(alloc, graph, root.inverse())?;
         }
         Ok(())
     }

@@ -1,11 +1,11 @@
 -- Uses that are counted one by one.
-use Rattle.std.proofs.Common.{◌≡◌, ◌≢◌, inl, inr, ℕ, ◌+◌, ◌<◌, ◌≤◌, ◌==◌, Bool, true, false, List, [], ◌∷◌, ◌++◌, length, take, drop, get_or, set, min, ap, refl, sym, subst, ◌∙◌, arith, get_or-set_same, get_or-set_other, length-set}
-use Prim.Native.Nat.{zero, suc}
+use Rattle.std.proofs.Common.{◌≡◌, inl, inr, ℕ, ◌+◌, ◌<◌, ◌≤◌, ◌==◌, Bool, true, false, List, [], ◌∷◌, ◌++◌, length, take, drop, get_or, set, min, ap, refl, sym, subst, ◌∙◌, arith, get_or-set_same, get_or-set_other, length-set}
+use Prim.Native.Nat.{suc}
 use Rattle.std.proofs.lemmas.Bool.{cases_lt, eqb-true, eqb-false}
 use Rattle.net_theory.specs.Sources.{IsNumber}
 use Rattle.graph_theory.specs.Graph.{Node, fixed, inv, nand, ReadsBelow, EachReadsEarlier}
 use Rattle.cell_match.specs.Places.{times}
-use Rattle.cell_match.proofs.Numbers.{one, one_tells, one_same, times_more}
+use Rattle.cell_match.proofs.Numbers.{one, one_tells}
 use Rattle.cell_match.proofs.Pigeons.{times_append}
 use Rattle.boog_tree.specs.Trees.{pins, pin_uses}
 use Rattle.boog_tree.specs.Counted.{IsRaised}

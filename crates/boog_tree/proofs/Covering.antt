@@ -1,13 +1,11 @@
 -- What bounds and picks say of covers.
-use Rattle.std.proofs.Common.{◌≡◌, inl, inr, ℕ, ◌+◌, ◌<◌, ◌≤◌, Bool, true, false, ◌&&◌, IsTrue, List, Option, length, slice_index, ap, refl, sym, subst, ◌∙◌, arith}
+use Rattle.std.proofs.Common.{ℕ, ◌<◌, ◌≤◌, IsTrue, List, Option, slice_index, sym, subst, arith}
 use Prim.Native.Nat.{zero, suc}
 use Rattle.graph_theory.specs.Graph.{Graph, EachReadsEarlier}
-use Rattle.cell_match.specs.Places.{times}
 use Rattle.cell_match.specs.declared.gate.CellWord.{CellWord}
 use Rattle.cell_match.specs.declared.gate.Gate.{Gate}
 use Rattle.boog_tree.specs.Trees.{is_gate, is_inner}
-use Rattle.boog_tree.specs.Sums.{inner_sum}
-use Rattle.boog_tree.specs.Bounds.{IsMatch, IsCoverOf, taken, AreBounds, BoundsAreLeast, ArePicks}
+use Rattle.boog_tree.specs.Bounds.{IsCoverOf, taken, BoundsAreLeast, ArePicks}
 use Rattle.boog_tree.proofs.Totals.{inner_le}
 use Rattle.boog_tree.proofs.Within.{cut_earlier}
 use Rattle.boog_tree.proofs.Open.{left_true}

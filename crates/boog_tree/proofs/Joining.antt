@@ -1,5 +1,5 @@
 -- Lists of cuts that are made of two.
-use Rattle.std.proofs.Common.{◌≡◌, ◌⊎◌, inl, inr, ℕ, ◌+◌, ◌<◌, ◌≤◌, Bool, not, List, [], ◌∷◌, ◌++◌, length, take, ap, refl, sym, subst, ◌∙◌, arith}
+use Rattle.std.proofs.Common.{◌≡◌, inl, inr, ℕ, ◌+◌, ◌<◌, List, [], ◌∷◌, ◌++◌, length, take, refl, sym, subst, arith}
 use Prim.Native.Nat.{zero, suc}
 use Rattle.net_theory.specs.Sources.{IsNumber}
 use Rattle.cell_match.specs.declared.cut.Cut.{Cut}
@@ -9,7 +9,7 @@ use Rattle.boog_cuts.proofs.Growing.{number_front, number_end}
 use Rattle.boog_cuts.proofs.Whole.{take_one_more}
 use Rattle.boog_tree.specs.Joined.{AreInverses, HasJoint, IsGrownBy, AreJoined}
 
-number_here : (xs : List (Cut 6)) (c : Cut 6) → IsNumber (xs ++ c ∷ []) (length xs) c
+pub number_here : (xs : List (Cut 6)) (c : Cut 6) → IsNumber (xs ++ c ∷ []) (length xs) c
 number_here [] c = refl
 number_here (x ∷ xs) c = number_here xs c
 

@@ -10,4 +10,10 @@ pub mod Steps
 pub mod Counting
 pub mod Placing
 pub mod Joining
+pub mod Apart
+pub mod Standing
+pub mod Likeness
+pub mod Keeping
+pub mod Ordering
+pub mod Sufficing
 pub mod Picking

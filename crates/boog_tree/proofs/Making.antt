@@ -1,5 +1,5 @@
 -- The lists of cuts that are made of those of the numbers before.
-use Rattle.std.proofs.Common.{◌≡◌, ◌⊎◌, inl, inr, ℕ, ◌+◌, ◌<◌, ◌≤◌, Bool, true, false, not, ◌&&◌, IsTrue, List, [], ◌∷◌, ◌++◌, length, ap, ap₂, refl, sym, subst, ◌∙◌, arith, if◌then◌else◌}
+use Rattle.std.proofs.Common.{◌≡◌, inl, inr, ℕ, ◌<◌, ◌≤◌, Bool, true, false, not, ◌&&◌, List, [], ◌∷◌, ◌++◌, length, ap, ap₂, refl, sym, subst, ◌∙◌, arith, if◌then◌else◌}
 use Rattle.net_theory.specs.Sources.{IsNumber}
 use Rattle.graph_theory.specs.Graph.{Node, fixed, inv, nand, Graph}
 use Rattle.cell_match.specs.Places.{times}
@@ -7,12 +7,11 @@ use Rattle.cell_match.proofs.Pigeons.{no_longer}
 use Rattle.cell_match.specs.declared.cut.Cut.{Cut}
 use Rattle.cell_match.specs.Computes.{cut_value}
 use Rattle.boog_cuts.specs.Cuts.{IsUnion}
-use Rattle.boog_cuts.specs.Lists.{IsInvMade, IsNandMade}
 use Rattle.boog_cuts.proofs.Growing.{number_front, number_end}
 use Rattle.boog_tree.specs.Trees.{is_inner, IsNode, IsTreeCut, IsPart, of_inv, of_nand, itself, opened}
 use Rattle.boog_tree.specs.Cuts.{AreSame, IsListed, AreTreeCuts, AreParts, AreOnce}
 use Rattle.boog_tree.specs.Joined.{AreInverses, AreJoined, HasItself}
-use Rattle.boog_tree.proofs.Within.{node_once, only, cut_cases, cut_once, part_once}
+use Rattle.boog_tree.proofs.Within.{node_once, cut_cases, cut_once, part_once}
 
 -- what a node reads
 son : Node → ℕ
@@ -25,25 +24,25 @@ son_too (fixed b) = 0
 son_too (inv a) = a
 son_too (nand a b) = b
 
-same_son : (a b : ℕ) → inv a ≡ inv b → a ≡ b
+pub same_son : (a b : ℕ) → inv a ≡ inv b → a ≡ b
 unfolding son
 same_son a b e = ap son e
 
-same_first : (a b c d : ℕ) → nand a b ≡ nand c d → a ≡ c
+pub same_first : (a b c d : ℕ) → nand a b ≡ nand c d → a ≡ c
 unfolding son
 same_first a b c d e = ap son e
 
-same_second : (a b c d : ℕ) → nand a b ≡ nand c d → b ≡ d
+pub same_second : (a b c d : ℕ) → nand a b ≡ nand c d → b ≡ d
 unfolding son_too
 same_second a b c d e = ap son_too e
 
-apart : (a b c : ℕ) → inv a ≡ nand b c → ⊥
+pub apart : (a b c : ℕ) → inv a ≡ nand b c → ⊥
 apart a b c e = cc
 
-no_inv : (v : Bool) (a : ℕ) → fixed v ≡ inv a → ⊥
+pub no_inv : (v : Bool) (a : ℕ) → fixed v ≡ inv a → ⊥
 no_inv v a e = cc
 
-no_nand : (v : Bool) (a b : ℕ) → fixed v ≡ nand a b → ⊥
+pub no_nand : (v : Bool) (a b : ℕ) → fixed v ≡ nand a b → ⊥
 no_nand v a b e = cc
 
 -- a cut of the list has the members in another order

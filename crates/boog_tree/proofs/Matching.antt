@@ -1,14 +1,12 @@
 -- Matches at a gate are those at its cuts.
-use Rattle.std.proofs.Common.{◌≡◌, inl, inr, ℕ, ◌+◌, ◌<◌, ◌≤◌, Bool, List, map, length, slice_index, ap, refl, sym, subst, ◌∙◌, arith}
+use Rattle.std.proofs.Common.{ℕ, ◌≤◌, List, sym, ◌∙◌, arith}
 use Rattle.net_theory.specs.Sources.{IsNumber}
 use Rattle.graph_theory.specs.Graph.{Graph}
-use Rattle.cell_match.specs.Places.{times}
-use Rattle.cell_match.specs.Cells.{inputs_of, cell_value}
+use Rattle.cell_match.specs.Cells.{inputs_of}
 use Rattle.cell_match.proofs.Pigeons.{no_longer}
 use Rattle.cell_match.specs.declared.gate.CellWord.{CellWord}
 use Rattle.cell_match.specs.declared.cut.Cut.{Cut}
 use Rattle.cell_match.specs.Computes.{cut_value, ComputesCut}
-use Rattle.boog_tree.specs.Trees.{IsTreeCut}
 use Rattle.boog_tree.specs.Cuts.{AreTreeCuts}
 use Rattle.boog_tree.specs.Bounds.{IsMatch}
 use Rattle.boog_tree.proofs.Within.{cut_once}

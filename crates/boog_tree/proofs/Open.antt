@@ -1,12 +1,11 @@
 -- The bounds of gates that belong to trees and are not read yet: they are no more than the areas of as many cells as there are nodes so far.
-use Rattle.std.proofs.Common.{◌≡◌, ◌≢◌, inl, inr, ℕ, ◌+◌, ◌*◌, ◌-◌, ◌<◌, ◌≤◌, Bool, true, false, not, ◌&&◌, ◌==◌, IsTrue, List, [], ◌∷◌, ◌++◌, length, take, get_or, nat_eq, if◌then◌else◌, ap, refl, sym, subst, ◌∙◌, arith}
+use Rattle.std.proofs.Common.{◌≡◌, ◌≢◌, ℕ, ◌+◌, ◌<◌, ◌≤◌, Bool, true, false, not, ◌&&◌, ◌==◌, List, [], ◌∷◌, ◌++◌, take, get_or, nat_eq, if◌then◌else◌, ap, refl, sym, ◌∙◌, arith}
 use Prim.Native.Nat.{zero, suc}
-use Rattle.std.specs.List.{slice_index_or}
-use Rattle.std.proofs.lemmas.Bool.{cases_lt, cases_eq, eqb-true, eqb-false}
+use Rattle.std.proofs.lemmas.Bool.{eqb-true}
 use Rattle.net_theory.specs.Sources.{IsNumber}
-use Rattle.graph_theory.specs.Graph.{Node, fixed, inv, nand, Graph}
+use Rattle.graph_theory.specs.Graph.{Node, inv, nand, Graph}
 use Rattle.cell_match.specs.Places.{times}
-use Rattle.cell_match.proofs.Numbers.{one, one_tells, one_same}
+use Rattle.cell_match.proofs.Numbers.{one, one_same}
 use Rattle.boog_tree.specs.Trees.{pins, pin_uses, root_uses, is_gate, is_inner}
 
 pub left_true : (a b : Bool) → (a && b) ≡ true → a ≡ true

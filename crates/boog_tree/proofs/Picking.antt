@@ -1,14 +1,13 @@
 -- The best of the matches at a list of cuts.
-use Rattle.std.proofs.Common.{◌≡◌, ◌⊎◌, inl, inr, ℕ, ◌+◌, ◌<◌, ◌≤◌, Bool, List, length, get_or, Option, None, Some, IfSome, IfNone, IsSomeAnd, ap, refl, sym, subst, ◌∙◌, arith, if◌then◌else◌}
+use Rattle.std.proofs.Common.{◌≡◌, inl, inr, ℕ, ◌+◌, ◌<◌, ◌≤◌, Bool, List, get_or, Option, None, Some, IfSome, IfNone, IsSomeAnd, subst, arith, if◌then◌else◌}
 use Rattle.std.proofs.lemmas.Bool.{cases_lt}
 use Rattle.net_theory.specs.Sources.{IsNumber}
 use Rattle.net_theory.proofs.Basics.{number_once}
-use Rattle.cell_match.specs.Places.{times}
 use Rattle.cell_match.specs.declared.gate.CellWord.{CellWord}
 use Rattle.cell_match.specs.declared.gate.Gate.{Gate}
 use Rattle.cell_match.specs.declared.cut.Cut.{Cut}
 use Rattle.cell_match.specs.Computes.{ComputesCut}
-use Rattle.boog_tree.specs.Sums.{total, inner_sum}
+use Rattle.boog_tree.specs.Sums.{inner_sum}
 use Rattle.boog_tree.specs.Picked.{AreRising, IsBestOf, NoneMatches}
 use Rattle.boog_tree.specs.declared.pick.Pick.{Pick}
 use Rattle.boog_tree.proofs.Totals.{total_listed, once_same}

@@ -1,5 +1,5 @@
 -- Nodes of a graph by their places in memory.
-use Rattle.std.proofs.Common.{◌≡◌, ℕ, ◌+◌, ◌-◌, ◌<◌, ◌≤◌, List, map, length, get_or, Result, Ok, Err, IfOk, ap, sym, subst, ◌∙◌, arith}
+use Rattle.std.proofs.Common.{◌≡◌, ℕ, ◌+◌, ◌-◌, ◌<◌, ◌≤◌, List, map, length, get_or, Result, Ok, Err, IfOk, ap, subst, arith}
 use Rattle.net_theory.specs.Sources.{IsNumber}
 use Rattle.graph_theory.specs.Graph.{Node, Graph}
 use Rattle.subject_table.specs.View.{node_view}

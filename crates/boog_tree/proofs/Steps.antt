@@ -1,12 +1,12 @@
 -- One number more.
-use Rattle.std.proofs.Common.{◌≡◌, ◌≢◌, ◌⊎◌, inl, inr, ℕ, ◌+◌, ◌*◌, ◌-◌, ◌^◌, ◌<◌, ◌≤◌, Bool, true, false, not, ◌&&◌, ◌==◌, IsTrue, List, [], ◌∷◌, ◌++◌, map, length, take, get_or, slice_index, Option, None, Some, IfSome, IfNone, ap, refl, sym, subst, ◌∙◌, arith, length-append, if◌then◌else◌}
+use Rattle.std.proofs.Common.{◌≡◌, ◌⊎◌, inl, inr, ℕ, ◌+◌, ◌*◌, ◌-◌, ◌^◌, ◌<◌, ◌≤◌, Bool, true, false, ◌==◌, IsTrue, List, [], ◌∷◌, ◌++◌, map, length, take, get_or, slice_index, Option, None, Some, IfSome, IfNone, ap, refl, sym, subst, ◌∙◌, arith, length-append, if◌then◌else◌}
 use Prim.Native.Nat.{zero, suc}
 use Rattle.std.specs.Global.{Vec}
 use Rattle.std.specs.List.{slice_index_or}
 use Rattle.std.proofs.lemmas.Bool.{cases_lt, cases_eq, eqb-true}
 use Rattle.bool_expr.specs.Expression.{bit}
 use Rattle.net_theory.specs.Sources.{IsNumber}
-use Rattle.net_theory.proofs.Basics.{number_below, number_once}
+use Rattle.net_theory.proofs.Basics.{number_below}
 use Rattle.graph_theory.specs.Graph.{Node, fixed, inv, nand, Graph, is_logic, EachReadsEarlier}
 use Rattle.cell_match.specs.Places.{times}
 use Rattle.cell_match.specs.Cells.{inputs_of}
@@ -16,25 +16,23 @@ use Rattle.cell_match.specs.declared.gate.Gate.{Gate}
 use Rattle.cell_match.specs.declared.cut.Cut.{Cut}
 use Rattle.boog_tight.specs.Cover.{gate_at}
 use Rattle.boog_cuts.proofs.Whole.{map_end}
-use Rattle.boog_tree.specs.Trees.{pins, pin_uses, is_gate, is_inner, IsNode}
-use Rattle.boog_tree.specs.Sums.{total, inner_sum}
+use Rattle.boog_tree.specs.Trees.{pin_uses, is_gate, is_inner, IsNode}
+use Rattle.boog_tree.specs.Sums.{inner_sum}
 use Rattle.boog_tree.specs.Direct.{HasGates}
 use Rattle.boog_tree.specs.Bounds.{IsMatch, ArePicks, AreBounds}
-use Rattle.boog_tree.specs.Cuts.{AreTreeCuts, AreParts}
-use Rattle.boog_tree.specs.Joined.{HasItself}
+use Rattle.boog_tree.specs.Enough.{AreEnoughCuts, AreEnoughParts}
 use Rattle.boog_tree.specs.Picked.{IsBestOf, NoneMatches, IsWithin}
 use Rattle.boog_tree.specs.Swept.{AddsParts, gate_of, cost_of}
 use Rattle.boog_tree.specs.declared.pick.Pick.{Pick}
 use Rattle.boog_tree.proofs.Totals.{total_on, inner_same}
 use Rattle.boog_tree.proofs.Within.{cut_earlier, cut_once}
-use Rattle.boog_tree.proofs.Making.{parts_are}
-use Rattle.boog_tree.proofs.Matching.{listed_is_match, match_is_listed}
+use Rattle.boog_tree.proofs.Sufficing.{parts_enough, parts_agree, enough_is_match, match_is_met}
 use Rattle.boog_tree.proofs.Open.{open_sum, open_at, open_end, open_le, open_inv, open_twice, open_nand, share, left_true, right_true, both_true}
-use Rattle.boog_tree.proofs.Sweeping.{gate_is_node, node_is_gate, cut_is_gate, match_inv, match_twice, match_nand}
+use Rattle.boog_tree.proofs.Sweeping.{gate_is_node, cut_is_gate, match_inv, match_twice, match_nand}
 
 -- the lists of parts of the numbers so far
-pub record ArePartsOf (held : ℕ) (g : Graph) (parts : List (Vec (Cut 6))) : Type 0 where
-  pub are : (x : ℕ) (list : List (Cut 6)) → IsNumber (map (λ v. v.items) parts) x list → AreParts held g x list
+pub record ArePartsOf (held : ℕ) (g : Graph) (b : ℕ → ℕ) (parts : List (Vec (Cut 6))) : Type 0 where
+  pub are : (x : ℕ) (list : List (Cut 6)) → IsNumber (map (λ v. v.items) parts) x list → AreEnoughParts held g b x list
 
 number_last : {A : Type 0} (xs : List A) (y : A) (i : ℕ) (x : A) → IsNumber (xs ++ y ∷ []) i x → IsNumber xs i x ⊎ ((i ≡ length xs) × (x ≡ y))
 number_last [] y zero x h = inr (refl, h)
@@ -49,12 +47,12 @@ mapped_long : {A B : Type 0} (f : A → B) (xs : List A) → length (map f xs) �
 mapped_long f [] = refl
 mapped_long f (x ∷ xs) = let e = mapped_long f xs in omega arith
 
-pub parts_none : (held : ℕ) (g : Graph) → ArePartsOf held g []
-parts_none held g = record { are = λ x list h. absurd h }
+pub parts_none : (held : ℕ) (g : Graph) (b : ℕ → ℕ) → ArePartsOf held g b []
+parts_none held g b = record { are = λ x list h. absurd h }
 
-pub parts_more : (held : ℕ) (g : Graph) (old new : List (Vec (Cut 6))) (inner : Bool) (cuts : List (Cut 6)) → ArePartsOf held g old
-    → inner ≡ is_inner held g (length old) → AreTreeCuts held g (length old) cuts → AddsParts old inner cuts new → ArePartsOf held g new
-parts_more held g old new inner cuts before is are adds = record {
+pub parts_more : (held : ℕ) (g : Graph) (b : ℕ → ℕ) (old new : List (Vec (Cut 6))) (inner : Bool) (cuts : List (Cut 6)) → ArePartsOf held g b old
+    → inner ≡ is_inner held g (length old) → AreEnoughCuts held g b (length old) cuts → AddsParts old inner cuts new → ArePartsOf held g b new
+parts_more held g b old new inner cuts before is are adds = record {
   are = λ x list h.
       let whole = ap (λ (vs : List (Vec (Cut 6))). map (λ v. v.items) vs) adds.is ∙ map_end (λ (v : Vec (Cut 6)). v.items) old adds.parts in
       elim (number_last (map (λ v. v.items) old) adds.parts.items x list (subst (λ (ls : List (List (Cut 6))). IsNumber ls x list) whole h)) [
@@ -62,10 +60,20 @@ parts_more held g old new inner cuts before is are adds = record {
         | inr last ↦
             let e = mapped_long (λ (v : Vec (Cut 6)). v.items) old in
             let here : length old ≡ x = sym (last.0 ∙ e) in
-            subst (λ (k : ℕ). AreParts held g k list) here
-            (subst (λ (l : List (Cut 6)). AreParts held g (length old) l) (sym last.1)
-            (parts_are held g (length old) inner cuts adds.parts.items is (λ t. are) adds.has))
+            subst (λ (k : ℕ). AreEnoughParts held g b k list) here
+            (subst (λ (l : List (Cut 6)). AreEnoughParts held g b (length old) l) (sym last.1)
+            (parts_enough held g b (length old) inner cuts adds.parts.items is are adds.has))
       ];
+}
+
+-- with other bounds that are the same of all numbers so far
+pub parts_other : (held : ℕ) (g : Graph) (b other : ℕ → ℕ) (parts : List (Vec (Cut 6))) → EachReadsEarlier held g.nodes
+    → ((y : ℕ) → y < length parts → b y ≡ other y) → ArePartsOf held g b parts → ArePartsOf held g other parts
+parts_other held g b other parts earlier same before = record {
+  are = λ x list h.
+      let e = mapped_long (λ (v : Vec (Cut 6)). v.items) parts in
+      let low = number_below (map (λ v. v.items) parts) x list h in
+      parts_agree held g earlier b other (length parts) same x list (omega (arith, e, low)) (before.are x list h);
 }
 
 -- ---- what is known of matches and bounds
@@ -91,6 +99,11 @@ at_last (x ∷ xs) y d = at_last xs y d
 
 at_there : {A : Type 0} (xs : List A) (y d : A) (n : ℕ) → length xs ≡ n → slice_index_or (xs ++ y ∷ []) n d ≡ y
 at_there xs y d n e = subst (λ (k : ℕ). slice_index_or (xs ++ y ∷ []) k d ≡ y) e (at_last xs y d)
+
+-- a bound more leaves those before it
+pub bound_front : (bounds next : List ℕ) (v n : ℕ) → n ≡ length bounds → next ≡ bounds ++ v ∷ [] → (y : ℕ) → y < n → get_or bounds y 0 ≡ get_or next y 0
+bound_front bounds next v n many is y low =
+    sym (ap (λ (l : List ℕ). get_or l y 0) is ∙ at_front bounds v 0 y (omega (arith, low, many)))
 
 pub sweeping_none : (cells : List CellWord) (areas : List ℕ) (held : ℕ) (g : Graph) → Sweeping cells areas held g 0 [] []
 sweeping_none cells areas held g = record {
@@ -248,16 +261,18 @@ module _ (cells : List CellWord) (areas : List ℕ) (held : ℕ) (g : Graph) (n 
 module _ (cells : List CellWord) (areas : List ℕ) (held : ℕ) (g : Graph) (n : ℕ) (picks : List (Option Gate)) (bounds : List ℕ)
     (narrow : (k : ℕ) → inputs_of cells k ≤ 6) (few : (k : ℕ) → get_or areas k 0 < 2 ^ 32) (has : HasGates cells)
     (earlier : EachReadsEarlier held g.nodes) (inside : n < held + length g.nodes)
-    (is : Sweeping cells areas held g n picks bounds) (cuts : List (Cut 6)) (are : AreTreeCuts held g n cuts) where
+    (is : Sweeping cells areas held g n picks bounds) (cuts : List (Cut 6)) (are : AreEnoughCuts held g (slice_index bounds) n cuts) where
   best_low : (p : Pick) → IsBestOf cells areas (is_inner held g) (slice_index bounds) cuts (length cuts) p → (k : ℕ) (order : List ℕ)
       → IsMatch cells held g n k order → p.cost ≤ get_or areas k 0 + inner_sum (is_inner held g) (slice_index bounds) order
   best_low p best k order m =
-      let h = match_is_listed cells held g n cuts are k order narrow m in
-      best.least h.0 h.1 k order (number_below cuts h.0 h.1 h.2) h.2 h.3
+      let h = match_is_met cells held g (slice_index bounds) n cuts are k order narrow m in
+      let l = best.least h.0 h.1 k h.2 (number_below cuts h.0 h.1 h.3) h.3 h.4 in
+      let e = h.5 in
+      omega (arith, l, e)
 
   best_is_match : (p : Pick) (best : IsBestOf cells areas (is_inner held g) (slice_index bounds) cuts (length cuts) p)
       → IsMatch cells held g n p.gate.cell p.gate.leaves.items
-  best_is_match p best = listed_is_match cells held g n cuts are best.place best.cut p.gate.cell p.gate.leaves.items best.at best.computes
+  best_is_match p best = enough_is_match cells held g (slice_index bounds) n cuts are best.place best.cut p.gate.cell p.gate.leaves.items best.at best.computes
 
   some_small : (p : Pick) → IsBestOf cells areas (is_inner held g) (slice_index bounds) cuts (length cuts) p
       → (open_sum (open_at held g (n + 1 - held)) (bounds ++ p.cost ∷ []) ≤ 4294967295 * (n + 1 - held)) × (p.cost ≤ 4294967295 * (n + 1 - held))
@@ -280,7 +295,8 @@ module _ (cells : List CellWord) (areas : List ℕ) (held : ℕ) (g : Graph) (n 
   none_gate : NoneMatches cells cuts (length cuts) → is_gate held g.nodes n ≡ true → ⊥
   none_gate none gate = let k = gate_is_node held g n gate in go k.0 k.1 k.2 where
     out : (k : ℕ) (order : List ℕ) → IsMatch cells held g n k order → ⊥
-    out k order m = let h = match_is_listed cells held g n cuts are k order narrow m in none h.0 h.1 k order (number_below cuts h.0 h.1 h.2) h.2 h.3
+    out k order m =
+        let h = match_is_met cells held g (slice_index bounds) n cuts are k order narrow m in none h.0 h.1 k h.2 (number_below cuts h.0 h.1 h.3) h.3 h.4
 
     go : (kind : Node) → IsNode held g n kind → is_logic kind ≡ true → ⊥
     go (fixed b) node logic = cc
@@ -389,24 +405,25 @@ pub record IsLow (cells : List CellWord) (areas : List ℕ) (held : ℕ) (g : Gr
       → get_or bounds x 0 ≤ get_or areas k 0 + inner_sum (is_inner held g) (slice_index bounds) order
 
 module _ (cells : List CellWord) (areas : List ℕ) (held : ℕ) (g : Graph) (bounds : List ℕ) (n : ℕ) (narrow : (k : ℕ) → inputs_of cells k ≤ 6)
-    (cuts : List (Cut 6)) (are : AreTreeCuts held g n cuts) (inner : ℕ → Bool) (same : (x : ℕ) → inner x ≡ is_inner held g x)
+    (cuts : List (Cut 6)) (are : AreEnoughCuts held g (slice_index bounds) n cuts) (inner : ℕ → Bool) (same : (x : ℕ) → inner x ≡ is_inner held g x)
     (gate : Bool) (is_it : gate ≡ is_gate held g.nodes n) where
   pub low_of : (pick : Option Pick) → IfSome pick (λ p. IsBestOf cells areas inner (slice_index bounds) cuts (length cuts) p)
       → IfNone pick (NoneMatches cells cuts (length cuts)) → IsWithin gate (get_or bounds n 0) pick → IsLow cells areas held g bounds n
   low_of None some none within = record {
     outside = λ e. within.0 (is_it ∙ e);
     least = λ k order m.
-        let h = match_is_listed cells held g n cuts are k order narrow m in
-        absurd (none h.0 h.1 k order (number_below cuts h.0 h.1 h.2) h.2 h.3);
+        let h = match_is_met cells held g (slice_index bounds) n cuts are k order narrow m in
+        absurd (none h.0 h.1 k h.2 (number_below cuts h.0 h.1 h.3) h.3 h.4);
   }
   low_of (Some p) some none within = record {
     outside = λ e. within.0 (is_it ∙ e);
     least = λ k order m.
-        let h = match_is_listed cells held g n cuts are k order narrow m in
+        let h = match_is_met cells held g (slice_index bounds) n cuts are k order narrow m in
         let best = best_by cells areas inner (is_inner held g) (slice_index bounds) cuts (length cuts) p same some in
-        let l = best.least h.0 h.1 k order (number_below cuts h.0 h.1 h.2) h.2 h.3 in
+        let l = best.least h.0 h.1 k h.2 (number_below cuts h.0 h.1 h.3) h.3 h.4 in
+        let e = h.5 in
         let w = within.1 in
-        omega (arith, l, w);
+        omega (arith, l, e, w);
   }
 
   pub within_of : (pick : Option Pick) → IfSome pick (λ p. IsBestOf cells areas inner (slice_index bounds) cuts (length cuts) p)
@@ -414,7 +431,7 @@ module _ (cells : List CellWord) (areas : List ℕ) (held : ℕ) (g : Graph) (bo
   within_of None some bounds_are = (λ e. bounds_are.outside n (sym is_it ∙ e), tt)
   within_of (Some p) some bounds_are =
       let best = best_by cells areas inner (is_inner held g) (slice_index bounds) cuts (length cuts) p same some in
-      let m = listed_is_match cells held g n cuts are best.place best.cut p.gate.cell p.gate.leaves.items best.at best.computes in
+      let m = enough_is_match cells held g (slice_index bounds) n cuts are best.place best.cut p.gate.cell p.gate.leaves.items best.at best.computes in
       let l = bounds_are.least n p.gate.cell p.gate.leaves.items m in
       let costs = best.costs in
       (λ e. bounds_are.outside n (sym is_it ∙ e), omega (arith, l, costs))
@@ -433,7 +450,8 @@ all_low cells areas held g bounds n all many low = record {
 
 -- ---- what the best pick asks of the cuts of a number
 
-module _ (held : ℕ) (g : Graph) (earlier : EachReadsEarlier held g.nodes) (n : ℕ) (cuts : List (Cut 6)) (are : AreTreeCuts held g n cuts) where
+module _ (held : ℕ) (g : Graph) (earlier : EachReadsEarlier held g.nodes) (b : ℕ → ℕ) (n : ℕ) (cuts : List (Cut 6))
+    (are : AreEnoughCuts held g b n cuts) where
   pub each_once : (i : ℕ) (c : Cut 6) → IsNumber cuts i c → (x : ℕ) → times x c.leaves.items ≤ 1
   each_once i c at = cut_once held g n c.leaves.items (λ f. cut_value c f) (are.sound i c at)
 

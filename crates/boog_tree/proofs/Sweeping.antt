@@ -1,29 +1,20 @@
 -- The matches and bounds of the numbers so far.
-use Rattle.std.proofs.Common.{◌≡◌, ◌≢◌, ◌⊎◌, inl, inr, ℕ, ◌+◌, ◌*◌, ◌-◌, ◌^◌, ◌<◌, ◌≤◌, nat_le, Bool, true, false, not, ◌&&◌, IsTrue, List, [], ◌∷◌, ◌++◌, map, length, take, get_or, slice_index, Option, None, Some, IfSome, IfNone, ap, refl, sym, subst, ◌∙◌, arith, length-append, if◌then◌else◌}
+use Rattle.std.proofs.Common.{◌≡◌, ◌≢◌, inl, inr, ℕ, ◌-◌, ◌≤◌, nat_le, Bool, true, false, not, ◌&&◌, List, [], ◌∷◌, length, ap, refl, sym, ◌∙◌, arith}
 use Prim.Native.Nat.{zero, suc}
-use Rattle.std.specs.Global.{Vec}
 use Rattle.std.specs.List.{slice_index_or}
-use Rattle.std.proofs.lemmas.Bool.{cases_lt, cases_eq}
+use Rattle.std.proofs.lemmas.Bool.{cases_lt}
 use Rattle.net_theory.specs.Sources.{IsNumber}
-use Rattle.net_theory.proofs.Basics.{number_below, number_once}
-use Rattle.graph_theory.specs.Graph.{Node, fixed, inv, nand, Graph, is_logic, EachReadsEarlier}
+use Rattle.graph_theory.specs.Graph.{Node, fixed, inv, nand, Graph, is_logic}
 use Rattle.cell_match.specs.Places.{times}
-use Rattle.cell_match.proofs.Numbers.{one_tells, one_same}
-use Rattle.cell_match.specs.Cells.{inputs_of, cell_value}
+use Rattle.cell_match.proofs.Numbers.{one_tells}
 use Rattle.cell_match.specs.declared.gate.CellWord.{CellWord}
-use Rattle.cell_match.specs.declared.gate.Gate.{Gate}
-use Rattle.cell_match.specs.declared.cut.Cut.{Cut}
-use Rattle.boog_tight.specs.Cover.{gate_at}
 use Rattle.boog_cuts.specs.Cuts.{IsUnion}
-use Rattle.boog_cuts.proofs.Growing.{number_end}
 use Rattle.boog_cuts.proofs.Whole.{read_number}
-use Rattle.boog_tree.specs.Trees.{pins, is_gate, is_inner, IsNode, IsTreeCut, of_inv, of_nand, itself}
-use Rattle.boog_tree.specs.Sums.{total, inner_sum}
+use Rattle.boog_tree.specs.Trees.{is_gate, IsNode, IsTreeCut, of_inv, of_nand, itself}
 use Rattle.boog_tree.specs.Direct.{HasGates}
 use Rattle.boog_tree.specs.Bounds.{IsMatch}
-use Rattle.boog_tree.specs.Cuts.{AreTreeCuts, AreParts}
-use Rattle.boog_tree.proofs.Within.{only, alone, cut_cases}
-use Rattle.boog_tree.proofs.Open.{left_true, right_true, both_true, share}
+use Rattle.boog_tree.proofs.Within.{alone, cut_cases}
+use Rattle.boog_tree.proofs.Open.{left_true, right_true, both_true}
 
 -- ---- gates and nodes
 

@@ -1,5 +1,5 @@
 -- Sums over lists that name the same numbers.
-use Rattle.std.proofs.Common.{◌≡◌, ◌≢◌, inl, inr, ℕ, ◌+◌, ◌<◌, ◌≤◌, Bool, true, false, IsTrue, List, [], ◌∷◌, length, nat_eq, if◌then◌else◌, ap, refl, sym, subst, ◌∙◌, arith}
+use Rattle.std.proofs.Common.{◌≡◌, inl, inr, ℕ, ◌+◌, ◌<◌, ◌≤◌, Bool, true, false, IsTrue, List, [], ◌∷◌, nat_eq, if◌then◌else◌, ap, refl, arith}
 use Rattle.std.proofs.lemmas.Bool.{cases_lt, eqb-true, eqb-false}
 use Rattle.cell_match.specs.Places.{times}
 use Rattle.cell_match.proofs.Numbers.{one, one_tells, one_same}
@@ -30,7 +30,7 @@ abbrev pub left_out : ℕ → List ℕ → List ℕ
 left_out x [] = []
 left_out x (y ∷ ys) = if nat_eq y x then ys else y ∷ left_out x ys
 
-total_left : (t : ℕ → ℕ) (x : ℕ) (ys : List ℕ) → 0 < times x ys → total t ys ≡ t x + total t (left_out x ys)
+pub total_left : (t : ℕ → ℕ) (x : ℕ) (ys : List ℕ) → 0 < times x ys → total t ys ≡ t x + total t (left_out x ys)
 total_left t x [] some = absurd (omega arith)
 total_left t x (y ∷ ys) some = go (nat_eq y x) refl (total_left t x ys) where
   go : (b : Bool) → nat_eq y x ≡ b → (0 < times x ys → total t ys ≡ t x + total t (left_out x ys))
@@ -41,7 +41,7 @@ total_left t x (y ∷ ys) some = go (nat_eq y x) refl (total_left t x ys) where
     | inr isnt ↦ let o = isnt.1 in let r = rest (omega arith) in omega arith
   ]
 
-times_left : (x z : ℕ) (ys : List ℕ) → 0 < times x ys → times z ys ≡ one x z + times z (left_out x ys)
+pub times_left : (x z : ℕ) (ys : List ℕ) → 0 < times x ys → times z ys ≡ one x z + times z (left_out x ys)
 times_left x z [] some = absurd (omega arith)
 times_left x z (y ∷ ys) some = go (nat_eq y x) refl (times_left x z ys) where
   go : (b : Bool) → nat_eq y x ≡ b → (0 < times x ys → times z ys ≡ one x z + times z (left_out x ys))

@@ -1,13 +1,13 @@
 -- What cuts within trees are made of.
-use Rattle.std.proofs.Common.{◌≡◌, ◌⊎◌, inl, inr, ℕ, ◌+◌, ◌<◌, ◌≤◌, Bool, not, ◌&&◌, IsTrue, List, [], ◌∷◌, length, ap, refl, sym, subst, ◌∙◌, arith}
+use Rattle.std.proofs.Common.{◌≡◌, ◌⊎◌, inl, inr, ℕ, ◌<◌, ◌≤◌, Bool, not, ◌&&◌, List, [], ◌∷◌, sym, subst, arith}
 use Rattle.net_theory.specs.Sources.{IsNumber}
 use Rattle.net_theory.proofs.Basics.{number_once}
-use Rattle.graph_theory.specs.Graph.{Node, fixed, inv, nand, Graph, ReadsBelow, EachReadsEarlier}
+use Rattle.graph_theory.specs.Graph.{Node, inv, nand, Graph, ReadsBelow, EachReadsEarlier}
 use Rattle.graph_theory.proofs.Values.{reads_at}
 use Rattle.cell_match.specs.Places.{times}
 use Rattle.cell_match.proofs.Numbers.{one_tells}
 use Rattle.boog_cuts.specs.Cuts.{IsUnion}
-use Rattle.boog_tree.specs.Trees.{is_inner, IsNode, IsTreeCut, IsPart, of_inv, of_nand, itself, opened}
+use Rattle.boog_tree.specs.Trees.{IsNode, IsTreeCut, IsPart, of_inv, of_nand, itself, opened}
 
 pub only : (x n : ℕ) → 0 < times x (n ∷ []) → x ≡ n
 only x n h = elim (one_tells n x) [

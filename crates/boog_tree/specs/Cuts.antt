@@ -1,5 +1,5 @@
 -- Lists of cuts within trees.
-use Rattle.std.specs.Prelude.{◌≡◌, ◌↔◌, ℕ, ◌+◌, ◌<◌, ◌≤◌, Bool, List, length}
+use Rattle.std.specs.Prelude.{◌≡◌, ◌↔◌, ℕ, ◌<◌, ◌≤◌, Bool, List, length}
 use Rattle.net_theory.specs.Sources.{IsNumber}
 use Rattle.graph_theory.specs.Graph.{Graph}
 use Rattle.cell_match.specs.Places.{times}
@@ -22,7 +22,8 @@ pub record IsListed (cuts : List (Cut 6)) (members : List ℕ) (value : (ℕ →
 -- exactly the cuts of gate x within its tree, and those of what stands at a pin
 pub record AreTreeCuts (held : ℕ) (g : Graph) (x : ℕ) (cuts : List (Cut 6)) : Type 0 where
   pub sound : (i : ℕ) (c : Cut 6) → IsNumber cuts i c → IsTreeCut held g x c.leaves.items (λ f. cut_value c f)
-  pub every : (members : List ℕ) (value : (ℕ → Bool) → Bool) → IsTreeCut held g x members value → length members ≤ 6 → IsListed cuts members value
+  pub every : (members : List ℕ) (value : (ℕ → Bool) → Bool) → IsTreeCut held g x members value → length members ≤ 6
+      → IsListed cuts members value
 
 pub record AreParts (held : ℕ) (g : Graph) (x : ℕ) (cuts : List (Cut 6)) : Type 0 where
   pub sound : (i : ℕ) (c : Cut 6) → IsNumber cuts i c → IsPart held g x c.leaves.items (λ f. cut_value c f)

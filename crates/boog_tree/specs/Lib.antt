@@ -3,6 +3,8 @@ pub mod Counted
 pub mod Sums
 pub mod Cuts
 pub mod Joined
+pub mod Alike
+pub mod Enough
 pub mod Direct
 pub mod Picked
 pub mod Swept

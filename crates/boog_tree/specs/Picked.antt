@@ -13,7 +13,8 @@ pub record AreRising (cells : List CellWord) (areas : List ℕ) : Type 0 where
   pub rising : (j k : ℕ) → j ≤ k → k < length areas → slice_index areas j ≤ slice_index areas k
 
 -- a match at one of the cuts, with its cost, than which none at the first n of them costs less
-pub record IsBestOf (cells : List CellWord) (areas : List ℕ) (inner : ℕ → Bool) (b : ℕ → ℕ) (cuts : List (Cut 6)) (n : ℕ) (p : Pick) : Type 0 where
+pub record IsBestOf (cells : List CellWord) (areas : List ℕ) (inner : ℕ → Bool) (b : ℕ → ℕ) (cuts : List (Cut 6)) (n : ℕ) (p : Pick)
+    : Type 0 where
   pub place : ℕ
   pub cut : Cut 6
   pub at : IsNumber cuts place cut

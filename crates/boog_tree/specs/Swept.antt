@@ -1,5 +1,5 @@
 -- What a number adds to those before it.
-use Rattle.std.specs.Prelude.{◌≡◌, ℕ, Bool, List, [], ◌∷◌, ◌++◌, map, length, Option, None, Some, if◌then◌else◌}
+use Rattle.std.specs.Prelude.{◌≡◌, ℕ, Bool, List, [], ◌∷◌, ◌++◌, length, Option, None, Some, if◌then◌else◌}
 use Rattle.std.specs.Global.{Vec}
 use Rattle.cell_match.specs.declared.cut.Cut.{Cut}
 use Rattle.cell_match.specs.declared.gate.Gate.{Gate}

@@ -1,5 +1,5 @@
 -- The trees of a graph without their fan-out, and the cuts of their gates.
-use Rattle.std.specs.Prelude.{◌≡◌, ◌↔◌, ◌==◌, ℕ, ◌+◌, ◌-◌, ◌<◌, ◌≤◌, nat_le, Bool, true, not, ◌&&◌, IsTrue, List, [], ◌∷◌, length, filter}
+use Rattle.std.specs.Prelude.{◌≡◌, ◌==◌, ℕ, ◌+◌, ◌-◌, nat_le, Bool, true, not, ◌&&◌, IsTrue, List, [], ◌∷◌, length, filter}
 use Rattle.std.specs.List.{slice_index_or, range_with_len}
 use Rattle.net_theory.specs.Sources.{IsNumber}
 use Rattle.graph_theory.specs.Graph.{Node, fixed, inv, nand, Graph, is_logic}
@@ -52,6 +52,7 @@ mutual
         → ((f : ℕ → Bool) → value f ≡ not (read f && read_too f)) → IsTreeCut held g x members value
 
   pub data IsPart (held : ℕ) (g : Graph) : ℕ → List ℕ → ((ℕ → Bool) → Bool) → Type 0 where
-    itself : (a : ℕ) (members : List ℕ) (value : (ℕ → Bool) → Bool) → members ≡ a ∷ [] → ((f : ℕ → Bool) → value f ≡ f a) → IsPart held g a members value
+    itself : (a : ℕ) (members : List ℕ) (value : (ℕ → Bool) → Bool)
+        → members ≡ a ∷ [] → ((f : ℕ → Bool) → value f ≡ f a) → IsPart held g a members value
     opened : (a : ℕ) (members : List ℕ) (value : (ℕ → Bool) → Bool)
         → IsTrue (is_inner held g a) → IsTreeCut held g a members value → IsPart held g a members value

@@ -7,12 +7,13 @@ ghost use Rattle.boog_tree.specs.Counted.{AreInner};
 ghost use Rattle.boog_tree.specs.Picked.{AreRising, IsWithin};
 ghost use Rattle.boog_tree.specs.Bounds.{AreBounds};
 
-use crate::cuts::{parts_of, tree_cuts};
+use crate::cuts::parts_of;
+use crate::enough::enough_cuts;
 use crate::inner::{inner_gates, is_gate};
 use crate::pick::{Pick, best_pick};
+use boog_part::NeededPart;
 use cell_match::{CellWord, Table};
 use std::alloc::{AllocError, Global};
-use subject_graph::Graph;
 
 /// Whether a bound is at most what the best match costs; what is no gate has the bound 0.
 fn is_within(gate: bool, bound: u64, pick: &Option<Pick>) -> bool
@@ -33,7 +34,7 @@ fn are_within(
     cells: &[CellWord],
     areas: &[u32],
     held: u32,
-    graph: &Graph,
+    graph: &NeededPart,
     inner: &[bool],
     bounds: &[u64],
 ) -> Result<bool, AllocError>
@@ -48,7 +49,7 @@ fn are_within(
     let table = Table::new(alloc, cells)?;
     let mut parts = Vec::new(alloc);
     for number in 0..inner.len() {
-        let cuts = tree_cuts(alloc, held, graph, &parts)?;
+        let cuts = enough_cuts(alloc, held, graph, &parts, inner, bounds)?;
         let pick = best_pick(cells, areas, &table, &cuts, inner, bounds);
         let gate = is_gate(held as usize, graph.nodes(), number);
         if !is_within(gate, bounds[number], &pick) {
@@ -66,7 +67,7 @@ pub fn check_bounds(
     cells: &[CellWord],
     areas: &[u32],
     held: u32,
-    graph: &Graph,
+    graph: &NeededPart,
     bounds: &[u64],
 ) -> Result<bool, AllocError>
     requires narrow { (k : ℕ) → inputs_of cells.now k ≤ 6 }

@@ -8,15 +8,16 @@ ghost use Rattle.boog_tree.specs.Cuts.{AreTreeCuts, AreParts, AreOnce};
 ghost use Rattle.boog_tree.specs.Joined.{AreInverses, IsGrownBy, AreJoined, HasItself};
 
 use boog_cuts::{inverse, merged, single};
+use boog_part::NeededPart;
 use cell_match::Cut;
 use std::alloc::{AllocError, Global};
-use subject_graph::{Graph, Node};
+use subject_graph::Node;
 
 /// The most members of a cut that a cell can read.
 pub const MOST_MEMBERS: usize = 6;
 
 /// The inverses of cuts. Takes memory for them.
-fn inverses(
+pub(crate) fn inverses(
     alloc: Global,
     first: &[Cut<MOST_MEMBERS>],
 ) -> Result<Vec<Cut<MOST_MEMBERS>>, AllocError>
@@ -67,7 +68,7 @@ fn joined(
 pub fn tree_cuts(
     alloc: Global,
     held: u32,
-    graph: &Graph,
+    graph: &NeededPart,
     parts: &[Vec<Cut<MOST_MEMBERS>>],
 ) -> Result<Vec<Cut<MOST_MEMBERS>>, AllocError>
     requires there { length parts.now < held + length graph.now.nodes }

@@ -7,8 +7,9 @@ ghost use Rattle.cell_match.specs.Places.{times};
 ghost use Rattle.boog_tree.specs.Trees.{pins, pin_uses, root_uses, is_gate};
 ghost use Rattle.boog_tree.specs.Counted.{AreInner, IsRaised};
 
+use boog_part::NeededPart;
 use std::alloc::{AllocError, Global};
-use subject_graph::{Graph, Node};
+use subject_graph::Node;
 
 /// Counts one use more of a number, up to 255.
 fn raise(uses: &mut [u8], number: u32)
@@ -80,7 +81,7 @@ fn count_pins(uses: &mut [u8], nodes: &[Node])
 }
 
 /// Counts the outputs and registers that read each number.
-fn count_roots(uses: &mut [u8], graph: &Graph)
+fn count_roots(uses: &mut [u8], graph: &NeededPart)
     requires inside { (x : ℕ) → 0 < root_uses x graph.now → x < length uses.old }
     requires none { (x : ℕ) → slice_index uses.old x ≡ 0 }
     ensures { (x : ℕ) → slice_index uses.new x ≡ min (root_uses x graph.now) 255 }
@@ -93,7 +94,7 @@ fn count_roots(uses: &mut [u8], graph: &Graph)
 fn marked(
     alloc: Global,
     held: u32,
-    graph: &Graph,
+    graph: &NeededPart,
     by_pins: &[u8],
     by_roots: &[u8],
 ) -> Result<Vec<bool>, AllocError>
@@ -114,7 +115,7 @@ fn marked(
 
 /// For each number whether it is that of a gate which is used exactly once, and that by another gate: an input or a register is none. Takes
 /// three bytes for each number.
-pub fn inner_gates(alloc: Global, held: u32, graph: &Graph) -> Result<Vec<bool>, AllocError>
+pub fn inner_gates(alloc: Global, held: u32, graph: &NeededPart) -> Result<Vec<bool>, AllocError>
     requires numbers { held + length graph.now.nodes < 2 ^ 32 }
     requires earlier { EachReadsEarlier held graph.now.nodes }
     requires roots { (x : ℕ) → 0 < root_uses x graph.now → x < held + length graph.now.nodes }

@@ -10,12 +10,13 @@ ghost use Rattle.boog_tree.specs.Picked.{AreRising};
 ghost use Rattle.boog_tree.specs.Swept.{AddsParts, gate_of, cost_of};
 ghost use Rattle.boog_tree.specs.Bounds.{ArePicks, AreBounds, IsLeast};
 
-use crate::cuts::{MOST_MEMBERS, parts_of, tree_cuts};
+use crate::cuts::{MOST_MEMBERS, parts_of};
+use crate::enough::enough_cuts;
 use crate::inner::{inner_gates, is_gate};
 use crate::pick::{Pick, best_pick};
+use boog_part::NeededPart;
 use cell_match::{CellWord, Cut, Gate, Table};
 use std::alloc::{AllocError, Global};
-use subject_graph::Graph;
 
 /// A cover of each tree of a graph, and what shows that none has less area.
 #[derive(Drop)]
@@ -36,7 +37,12 @@ fn is_root(gate: bool, inner: bool) -> bool
 }
 
 /// The roots of all trees, by their numbers. Takes memory for them.
-fn roots(alloc: Global, held: u32, graph: &Graph, inner: &[bool]) -> Result<Vec<u32>, AllocError>
+fn roots(
+    alloc: Global,
+    held: u32,
+    graph: &NeededPart,
+    inner: &[bool],
+) -> Result<Vec<u32>, AllocError>
     requires numbers { held + length graph.now.nodes < 2 ^ 32 }
     requires inner { AreInner held graph.now inner.now }
     ensures { IfOk result (λ trees. trees.items ≡ tree_roots held graph.now) }
@@ -94,7 +100,7 @@ fn sweep(
     cells: &[CellWord],
     areas: &[u32],
     held: u32,
-    graph: &Graph,
+    graph: &NeededPart,
     inner: &[bool],
 ) -> Result<Swept, AllocError>
     requires narrow { (k : ℕ) → inputs_of cells.now k ≤ 6 }
@@ -113,7 +119,7 @@ fn sweep(
         bounds: Vec::new(alloc),
     };
     for _ in 0..inner.len() {
-        let cuts = tree_cuts(alloc, held, graph, &swept.parts)?;
+        let cuts = enough_cuts(alloc, held, graph, &swept.parts, inner, &swept.bounds)?;
         let pick = best_pick(cells, areas, &table, &cuts, inner, &swept.bounds);
         swept.add(alloc, inner, cuts, pick)?;
     }
@@ -127,7 +133,7 @@ pub fn least_area(
     cells: &[CellWord],
     areas: &[u32],
     held: u32,
-    graph: &Graph,
+    graph: &NeededPart,
 ) -> Result<LeastCover, AllocError>
     requires narrow { (k : ℕ) → inputs_of cells.now k ≤ 6 }
     requires areas { AreRising cells.now areas.now }

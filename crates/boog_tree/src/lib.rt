@@ -1,11 +1,14 @@
 //! The least area of the trees of a graph by the cells of a library, with a bound for each gate that is checked by itself.
 #![tactic(auto)]
 
+mod alike;
 mod bounds;
 mod cuts;
+mod enough;
 mod inner;
 mod law;
 mod least;
+mod order;
 mod pick;
 
 pub use bounds::check_bounds;

@@ -24,6 +24,11 @@ pub(crate) struct RootChoice {
 const ROUNDS: u32 = 3;
 
 impl RootChoice {
+    /// What the root gets.
+    pub(crate) fn now(&self) -> Signal {
+        self.signal(self.is_made)
+    }
+
     // What the root gets, or the other of the two.
     fn signal(&self, is_made: bool) -> Signal {
         match self.made {
@@ -40,7 +45,7 @@ fn turned(
     readers: &mut Readers,
     root: &RootChoice,
 ) -> Result<bool, AllocError> {
-    let now = root.signal(root.is_made);
+    let now = root.now();
     let other = root.signal(!root.is_made);
     if now == other {
         return Ok(false);

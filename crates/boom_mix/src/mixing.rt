@@ -1,7 +1,8 @@
-// The graph of both machines, and the proposal that comes of it.
+// The graph of both machines, and the proposals that come of it.
 
 use crate::choosing::{Place, RootChoice, chosen};
 use crate::proposing::proposal_of;
+use crate::rewriting::rewritten_proposal;
 use and_graph::{AndGraph, Signal, signal_of};
 use boom_check::Proposal;
 use boom_literal::Literal;
@@ -100,31 +101,68 @@ fn root_choices(
     Ok(choices)
 }
 
-/// What a machine could say where each root keeps its equations or gets the choices of its diagram, by which needs fewer gates. `None`
-/// where all roots keep their equations. Takes memory for a graph of both machines.
-pub fn mixed(
+/// The graph of a machine and of its diagrams, and its roots as they are chosen from all diagrams on, and from all given equations on.
+#[derive(Drop)]
+pub struct Choices {
+    graph: AndGraph,
+    from_made: Vec<RootChoice>,
+    from_given: Vec<RootChoice>,
+    is_given_better: bool,
+}
+
+/// Chooses for each root its equations or its diagram. Takes memory for a graph of the machine and of its diagrams.
+pub fn choices_of(
     alloc: Global,
     m: &Machine,
     muxes: &[Mux],
     plan: &Plan,
-) -> Result<Option<Proposal>, AllocError> {
+) -> Result<Choices, AllocError> {
     let names = m.vars().as_slice().len();
     let held = names.saturating_sub(m.equations().as_slice().len());
     let mut graph = AndGraph::new(alloc, u32::try_from(held).unwrap_or(0));
     let given = given_signals(alloc, &mut graph, m)?;
     let made = made_signals(alloc, &mut graph, muxes)?;
-    let mut choices = root_choices(alloc, m, &given, &made, plan)?;
-    let from_made = chosen(alloc, &graph, &mut choices, true)?;
-    let mut others = choices.to_vec(alloc)?;
-    let from_given = chosen(alloc, &graph, &mut others, false)?;
-    let best = if from_given <= from_made {
-        &others
-    } else {
-        &choices
-    };
-    if best.iter().all(|root| !root.is_made) {
-        return Ok(None);
+    let mut from_made = root_choices(alloc, m, &given, &made, plan)?;
+    let needed_made = chosen(alloc, &graph, &mut from_made, true)?;
+    let mut from_given = from_made.to_vec(alloc)?;
+    let needed_given = chosen(alloc, &graph, &mut from_given, false)?;
+    Ok(Choices {
+        graph,
+        from_made,
+        from_given,
+        is_given_better: needed_given <= needed_made,
+    })
+}
+
+impl Choices {
+    /// What the machine could say where its gates are made anew; first, where that is asked, nodes that seem to be one function become
+    /// one: `None` where no two do. `None` too where there are too many gates. Takes memory for the gates that are tried.
+    pub fn rewritten(
+        &self,
+        alloc: Global,
+        m: &Machine,
+        is_swept: bool,
+    ) -> Result<Option<Proposal>, AllocError> {
+        let both = (self.from_made.as_slice(), self.from_given.as_slice());
+        rewritten_proposal(alloc, m, &self.graph, both, is_swept)
     }
-    let proposal = proposal_of(alloc, m, muxes, plan, best)?;
-    Ok(Some(proposal))
+
+    /// What the machine could say where each root keeps its equations or gets the choices of its diagram. `None` where all keep theirs.
+    pub fn mixed(
+        &self,
+        alloc: Global,
+        m: &Machine,
+        muxes: &[Mux],
+        plan: &Plan,
+    ) -> Result<Option<Proposal>, AllocError> {
+        let roots = if self.is_given_better {
+            self.from_given.as_slice()
+        } else {
+            self.from_made.as_slice()
+        };
+        if roots.iter().all(|root| !root.is_made) {
+            return Ok(None);
+        }
+        Ok(Some(proposal_of(alloc, m, muxes, plan, roots)?))
+    }
 }

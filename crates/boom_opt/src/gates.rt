@@ -16,11 +16,15 @@ fn gate_count(alloc: Global, m: &Machine) -> Result<Option<usize>, AllocError> {
     Ok(Some(graph.nodes().len()))
 }
 
-/// Says whether a machine's graph has fewer gates than another's. Takes memory for both.
+/// One gate in so many is much: the number of gates says only about how wide a netlist is.
+const MUCH: usize = 16;
+
+/// Says whether a machine's graph has fewer gates than another's, or much fewer. Takes memory for both.
 pub(crate) fn has_fewer_gates(
     alloc: Global,
     one: &Machine,
     other: &Machine,
+    is_much: bool,
 ) -> Result<bool, AllocError> {
     let Some(gates) = gate_count(alloc, one)? else {
         return Ok(false);
@@ -28,5 +32,6 @@ pub(crate) fn has_fewer_gates(
     let Some(others) = gate_count(alloc, other)? else {
         return Ok(false);
     };
-    Ok(gates < others)
+    let least = if is_much { others / MUCH } else { 0 };
+    Ok(gates.saturating_add(least) < others)
 }

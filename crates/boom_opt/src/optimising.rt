@@ -9,8 +9,8 @@
 // The answer is the smaller one of the two, and the given one where they weigh the same. A smaller machine may have a larger netlist, since
 // it is made of choices alone and shares less of what the roots have in common. So the given one is also kept where its subject graph
 // has fewer gates, if its inner signals are within the bound. In the place of that answer comes a machine that was proposed, as one
-// in which some roots keep their equations and others get those of their diagrams: where it has fewer gates, and a check shows that it
-// does the same and meets both bounds.
+// in which some roots keep their equations and others get those of their diagrams, or one whose gates are made anew: where it has
+// fewer gates, and a check shows that it does the same and meets both bounds.
 // - Its size is at most the given one.
 // - Its inner signals weigh at most four times the diagrams: of the second machine this was said; and where the given one is kept,
 //   all its expressions together weigh no more than the choices, or than the choices up to the one at which the second machine was
@@ -19,7 +19,7 @@
 //
 // The second machine is given up as soon as it weighs as much as the given one. So the table of choices never holds more than the
 // given machine weighs, however large the diagrams are; and of the diagrams only one is held at a time.
-ghost use Rattle.std.specs.Prelude.{◌≡◌, ℕ, ◌++◌, ◌∷◌, [], ◌+◌, ◌-◌, ◌<◌, ◌≤◌, ◌⊎◌, ◌^◌, length, min, None, IfOk, IfErr, OnOk, List};
+ghost use Rattle.std.specs.Prelude.{◌≡◌, ℕ, ◌++◌, ◌∷◌, [], ◌+◌, ◌-◌, ◌<◌, ◌≤◌, ◌⊎◌, ◌^◌, length, min, None, IfOk, IfErr, IfSome, OnOk, List};
 ghost use Rattle.std.specs.List.{All, sum_by};
 ghost use Rattle.bool_expr.specs.Expression.{size_of};
 ghost use Rattle.bool_expr.specs.View.{view};
@@ -37,7 +37,7 @@ use crate::gates::has_fewer_gates;
 use bdd_core::BddError;
 use bool_expr::size;
 use boom_check::{Proposal, assembled, inner_weight, may_replace};
-use boom_mix::mixed;
+use boom_mix::{Choices, choices_of};
 use boom_muxes::{Muxes, Plan, Stop, build, literal_of};
 use indexmap::IndexMap;
 use machine_core::{Equation, Machine, Register};
@@ -229,7 +229,7 @@ fn smaller(alloc: Global, m: &Machine, made: &Rebuilt) -> Result<Machine, AllocE
         return kept(alloc, m);
     }
     let second = build(alloc, m, made.muxes.nodes.as_slice(), Some(&made.plan))?;
-    if inner_weight(m) <= most_inner(m, made) && has_fewer_gates(alloc, m, &second)? {
+    if inner_weight(m) <= most_inner(m, made) && has_fewer_gates(alloc, m, &second, false)? {
         return kept(alloc, m);
     }
     Ok(second)
@@ -247,13 +247,40 @@ const TIMES_NODES: u32 = 4;
 
 const MORE_NODES: u32 = 1000;
 
-// The machine of a proposal, where it has fewer gates than the best one so far and may stand in the given one's place; and the best one
-// elsewhere.
+// The machine of a proposal, where there is one that has much fewer gates than the best one so far and may stand in the given one's place.
 fn better(
     alloc: Global,
     m: &Machine,
+    best: &Machine,
+    proposal: Option<Proposal>,
+    limits: Limits,
+) -> Result<Option<Machine>, AllocError>
+    requires few { length m.now.vars + length m.now.ports + machine_size m.now < 2 ^ 32 - 1 }
+    requires bound { IsInnerBound m.now limits.most_inner }
+    ensures { IfOk result (λ o. IfSome o (λ made. IsOptimised m.now made)) }
+{
+    let Some(proposal) = proposal else {
+        return Ok(None);
+    };
+    let Some(made) = assembled(alloc, m, &proposal)? else {
+        return Ok(None);
+    };
+    if !has_fewer_gates(alloc, &made, best, true)? {
+        return Ok(None);
+    }
+    if may_replace(alloc, m, &made, limits.most_inner, limits.budget)? {
+        Ok(Some(made))
+    } else {
+        Ok(None)
+    }
+}
+
+// The machine with gates made anew where that is better, from nodes that are swept if they may be; and the best one elsewhere.
+fn with_new_gates(
+    alloc: Global,
+    m: &Machine,
     best: Machine,
-    proposal: &Proposal,
+    choices: &Choices,
     limits: Limits,
 ) -> Result<Machine, AllocError>
     requires few { length m.now.vars + length m.now.ports + machine_size m.now < 2 ^ 32 - 1 }
@@ -261,17 +288,13 @@ fn better(
     requires best { IsOptimised m.now best }
     ensures { IfOk result (λ o. IsOptimised m.now o) }
 {
-    let Some(made) = assembled(alloc, m, proposal)? else {
-        return Ok(best);
-    };
-    if !has_fewer_gates(alloc, &made, &best)? {
-        return Ok(best);
+    for is_swept in [true, false] {
+        let proposal = choices.rewritten(alloc, m, is_swept)?;
+        if let Some(made) = better(alloc, m, &best, proposal, limits)? {
+            return Ok(made);
+        }
     }
-    if may_replace(alloc, m, &made, limits.most_inner, limits.budget)? {
-        Ok(made)
-    } else {
-        Ok(best)
-    }
+    Ok(best)
 }
 
 // The best machine of those that are proposed, and of the smaller one of the two.
@@ -289,9 +312,13 @@ fn best_of(alloc: Global, m: &Machine, made: &Rebuilt) -> Result<Machine, AllocE
             .saturating_mul(TIMES_NODES)
             .saturating_add(MORE_NODES),
     };
-    match mixed(alloc, m, made.muxes.nodes.as_slice(), &made.plan)? {
-        Some(proposal) => better(alloc, m, first, &proposal, limits),
-        None => Ok(first),
+    let muxes = made.muxes.nodes.as_slice();
+    let choices = choices_of(alloc, m, muxes, &made.plan)?;
+    let best = with_new_gates(alloc, m, first, &choices, limits)?;
+    let mixed = choices.mixed(alloc, m, muxes, &made.plan)?;
+    match better(alloc, m, &best, mixed, limits)? {
+        Some(made) => Ok(made),
+        None => Ok(best),
     }
 }
 

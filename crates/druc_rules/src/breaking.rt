@@ -79,7 +79,8 @@ fn put_gaps(
     Ok(())
 }
 
-/// Puts the shapes that are too near behind the breaches. Takes memory for a few entries a shape, and for the near pairs.
+/// Puts the shapes that are too near behind the breaches. Takes memory for a few entries a shape, and for the near pairs; which shapes
+/// are joined is found where there are such alone.
 fn gaps(
     alloc: Global,
     found: &mut Vec<Breach>,
@@ -89,11 +90,11 @@ fn gaps(
     requires { length shapes.now < 2 ^ 32 }
     ensures { OnOk result (AddsGaps least shapes.now found.old.items found.new.items) }
 {
-    let numbers = joints(alloc, shapes)?;
     let pairs = near_pairs(alloc, shapes, least)?;
     if pairs.near.is_empty() {
         return Ok(());
     }
+    let numbers = joints(alloc, shapes)?;
     let layout = Layout {
         shapes,
         numbers: &numbers,

@@ -1,3 +1,4 @@
 pub mod Refusing
 pub mod Reading
 pub mod NetlistWords
+mod FewBits

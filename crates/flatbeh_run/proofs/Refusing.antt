@@ -1,7 +1,6 @@
 -- From the refusals of readers and of the netlist's machine to the tool's.
-use Rattle.std.proofs.Common.{◌≡◌, ◌<◌, ◌≤◌, ◌^◌, ℕ, true, List, [], ◌∷◌, length, None, Err, false, sym, ap, ◌∙◌, subst, refl}
+use Rattle.std.proofs.Common.{◌≡◌, ℕ, true, List, [], ◌∷◌, None, Err, false, sym, subst, refl, arith}
 use Rattle.vlsi_base.specs.declared.fault.FaultKind.TheVariants as kind
-use Rattle.vlsi_base.specs.declared.fault.LimitKind.TheVariants.{Bits}
 use Rattle.vlsi_base.specs.declared.name.Name.{Name}
 use Rattle.machine_core.specs.Machine.{Machine}
 use Rattle.cell_model.specs.Library.{Library}
@@ -9,7 +8,6 @@ use Rattle.cell_lib.specs.Library.{IsLibraryOf}
 use Rattle.cell_pins.specs.Table.{IsTableOf}
 use Rattle.net_core.specs.declared.pins.ModelPins.{ModelPins}
 use Rattle.net_core.specs.Netlist.{Netlist}
-use Rattle.net_machine.specs.Bits.{bits_of}
 use Rattle.net_flat.specs.declared.error.FlatError.{FlatError}
 use Rattle.net_flat.specs.declared.error.FlatError.TheVariants as flat
 use Rattle.net_flat.specs.Answers.{IsFlatRefusal}
@@ -17,10 +15,10 @@ use Rattle.net_flat.specs.Flat.{IsPlain, AreApart, IsFlat}
 use Rattle.vst_io.specs.Text.{IsVst}
 use Rattle.flatbeh_run.specs.declared.words.FlatbehCommand.{FlatbehCommand}
 use Rattle.tool_drive.specs.declared.status.Status.{Status}
-use Rattle.tool_drive.specs.declared.status.Status.TheVariants as status
 use Rattle.tool_drive.specs.Table.{IsJudged, IsFair, refusal}
 use Rattle.tool_drive.specs.Refusals.{whole_fault, MemoryOr, judged}
-use Rattle.flatbeh_run.specs.Flatbeh.{HasVectorClock, no_behaviour, twice, many_bits, many_names, vector_clock, names_count, Flattens, IsToldOf}
+use Rattle.flatbeh_run.specs.Laws.{HasFewBits}
+use Rattle.flatbeh_run.specs.Flatbeh.{IsNotTooMany, HasVectorClock, no_behaviour, twice, vector_clock, Flattens, IsToldOf}
 
 module _ (c : FlatbehCommand) (source list : List ℕ) (cells : List (List ℕ)) where
   module _ (l : Library) (table : List ModelPins) (library : IsLibraryOf false list cells l) (pins : IsTableOf l true table) where
@@ -33,24 +31,22 @@ module _ (c : FlatbehCommand) (source list : List ℕ) (cells : List (List ℕ))
       told_flat (flat.Twice text) h t k =
           subst (λ (s : Status). IsFair s None (Flattens c source list cells (Err (refusal s None)))) (sym k)
           (refl, twice l table n text (record { library = library; pins = pins; netlist = netlist }) h.0 h.1 refl)
-      told_flat (flat.TooManyBits reached) h t k =
-          subst (λ (s : Status). IsFair s None (Flattens c source list cells (Err (refusal s None)))) (sym k)
-          (refl, many_bits l table n reached (record { library = library; pins = pins; netlist = netlist }) h.0 h.1 h.2 refl)
+      told_flat (flat.TooManyBits reached) h t k = absurd k
 
       pub by_flat : (e : FlatError) (s : Status) → IsFlatRefusal n l e → MemoryOr s (IsToldOf c e s) → IsJudged (Flattens c source list cells) (Err (refusal s None))
       by_flat e s h k = judged (Flattens c source list cells) (IsToldOf c e) (told_flat e h) s k
 
-      module _ (m : Machine) (plain : IsPlain n l) (apart : AreApart n l) (few : bits_of n l < 2 ^ 32) (is : IsFlat n l table m) where
-        pub by_names : length m.vars ≤ bits_of n l → 2 ^ 32 ≤ names_count m → (reached : ℕ) (s : Status) → reached ≡ names_count m → s ≡ status.Limit (record { which = Bits; reached = reached })
-            → IsJudged (Flattens c source list cells) (Err (refusal s None))
-        by_names numbered many reached s same e =
-            subst (λ (s : Status). IsJudged (Flattens c source list cells) (Err (refusal s None)))
-            (sym (e ∙ ap (λ (k : ℕ). status.Limit (record { which = Bits; reached = k })) same))
-            (refl, many_names l table n m (record { library = library; pins = pins; netlist = netlist }) plain apart few is numbered many refl)
-
-        pub by_clock : names_count m < 2 ^ 32 → (name : Name) (s : Status) → HasVectorClock m name → MemoryOr s (s ≡ whole_fault c.source kind.ClockUse (name ∷ [])) → IsJudged (Flattens c source list cells) (Err (refusal s None))
-        by_clock countable name s h k =
+      module _ (m : Machine) (plain : IsPlain n l) (apart : AreApart n l) (is : IsFlat n l table m) where
+        pub by_clock : (name : Name) (s : Status) → HasVectorClock m name → MemoryOr s (s ≡ whole_fault c.source kind.ClockUse (name ∷ [])) → IsJudged (Flattens c source list cells) (Err (refusal s None))
+        by_clock name s h k =
             judged (Flattens c source list cells) (λ t. t ≡ whole_fault c.source kind.ClockUse (name ∷ []))
             (λ t e.
             subst (λ (s : Status). IsFair s None (Flattens c source list cells (Err (refusal s None)))) (sym e)
-            (refl, vector_clock l table n m name (record { library = library; pins = pins; netlist = netlist }) plain apart few is countable h refl)) s k
+            (refl, vector_clock l table n m name (record { library = library; pins = pins; netlist = netlist }) plain apart is h refl)) s k
+
+-- a machine with few bits isn't refused for having many
+pub not_too_many : (n : Netlist) (l : Library) → (IsPlain n l → HasFewBits n l) → (e : FlatError) → IsFlatRefusal n l e → IsNotTooMany e
+not_too_many n l few flat.Memory h = tt
+not_too_many n l few (flat.NoBehaviour model) h = tt
+not_too_many n l few (flat.Twice text) h = tt
+not_too_many n l few (flat.TooManyBits reached) h = let low = (few h.0).bits in let high = h.2.many in omega (arith, low, high)

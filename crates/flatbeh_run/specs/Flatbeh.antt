@@ -1,7 +1,6 @@
 -- What `flatbeh` reads and answers.
-use Rattle.std.specs.Prelude.{◌≡◌, ℕ, ◌<◌, ◌≤◌, ◌+◌, ◌-◌, ◌^◌, min, length, true, false, List, [], ◌∷◌, ◌++◌, get_or, codes, None, Some, Result, Ok, Err}
+use Rattle.std.specs.Prelude.{◌≡◌, ℕ, ◌≤◌, ◌-◌, ◌^◌, min, length, true, false, List, [], ◌∷◌, ◌++◌, get_or, codes, None, Some, Result, Ok, Err}
 use Rattle.vlsi_base.specs.declared.fault.FaultKind.TheVariants as kind
-use Rattle.vlsi_base.specs.declared.fault.LimitKind.TheVariants.{Bits}
 use Rattle.vlsi_base.specs.declared.name.Name.{Name}
 use Rattle.vlsi_base.specs.Names.{scalar}
 use Rattle.machine_core.specs.Machine.{Machine}
@@ -15,7 +14,6 @@ use Rattle.cell_pins.specs.Table.{IsTableOf}
 use Rattle.net_core.specs.declared.pins.ModelPins.{ModelPins}
 use Rattle.net_core.specs.Netlist.{Netlist}
 use Rattle.net_machine.specs.Bits.{bits_of}
-use Rattle.net_machine.specs.Answers.{HasTooManyBits}
 use Rattle.net_flat.specs.declared.error.FlatError.{FlatError}
 use Rattle.net_flat.specs.declared.error.FlatError.TheVariants as flat
 use Rattle.net_flat.specs.Flat.{IsPlain, IsFirstOther, AreApart, IsFirstTwice, IsFlat}
@@ -37,10 +35,6 @@ use Rattle.tool_drive.specs.Refusals.{OfFile, whole_fault}
 abbrev pub flatbeh_plan : FlatbehCommand → Plan
 flatbeh_plan c = with_library (large c.source ∷ []) c.library
 
--- a machine's names and ports, which a text has to number
-abbrev pub names_count : Machine → ℕ
-names_count m = length m.vars + length m.ports
-
 -- how large a machine is, or the greatest number of 64 bits where that is less
 abbrev pub report : Machine → List ℕ
 report m = count_line (codes "size") (min (machine_size m) (2 ^ 64 - 1))
@@ -57,9 +51,8 @@ pub record AreRead (source catal : List ℕ) (cells : List (List ℕ)) (l : Libr
   pub pins : IsTableOf l true table
   pub netlist : IsVst source table n
 
--- Library and netlist are read, each instance is a gate or a plain flip-flop, no flip-flop has the text of a port, the netlist's
--- machine has fewer than 2^32 bits, and fewer names and ports together, and that machine by the names of its flip-flops, which has no
--- more names than there are bits, is written.
+-- Library and netlist are read, each instance is a gate or a plain flip-flop, no flip-flop has the text of a port, and the netlist's
+-- machine by the names of its flip-flops, which has no more names than the netlist has bits, is written.
 pub record IsFlattening (c : FlatbehCommand) (source catal : List ℕ) (cells : List (List ℕ)) (p : Product) : Type 0 where
   pub l : Library
   pub table : List ModelPins
@@ -68,10 +61,8 @@ pub record IsFlattening (c : FlatbehCommand) (source catal : List ℕ) (cells : 
   pub read : AreRead source catal cells l table n
   pub plain : IsPlain n l
   pub apart : AreApart n l
-  pub few : bits_of n l < 2 ^ 32
   pub flat : IsFlat n l table m
   pub numbered : length m.vars ≤ bits_of n l
-  pub countable : names_count m < 2 ^ 32
   pub checked : IsChecked m
   pub names : CanBeVbe m
   pub written : IsWrittenAs c.out m p
@@ -82,9 +73,7 @@ pub record HasVectorClock (m : Machine) (name : Name) : Type 0 where
   pub bit : name.bit ≡ None → ⊥
 
 -- What is refused, in this order: the library, the netlist, an instance that is neither a gate nor a plain flip-flop, a flip-flop with
--- the text of a port, a machine of 2^32 bits or more, or with as many names and ports together, and a clock that is a
--- bit of a vector, which a data-flow text can't have. The machine with more names and ports has no more names than the netlist's
--- machine has bits: none is padded.
+-- the text of a port, and a clock that is a bit of a vector, which a data-flow text can't have.
 pub data IsFlatbehRefusal (c : FlatbehCommand) (source catal : List ℕ) (cells : List (List ℕ)) (s : Status) : Type 0 where
   no_library : (e : LibError) → IsRefusedLibrary false catal cells e → s ≡ status_of e → IsFlatbehRefusal c source catal cells s
   bad_netlist : (l : Library) (table : List ModelPins) → IsLibraryOf false catal cells l → IsTableOf l true table
@@ -93,14 +82,8 @@ pub data IsFlatbehRefusal (c : FlatbehCommand) (source catal : List ℕ) (cells 
       → IsFirstOther n l model → s ≡ status.No (NoBehaviour model) → IsFlatbehRefusal c source catal cells s
   twice : (l : Library) (table : List ModelPins) (n : Netlist) (text : List ℕ) → AreRead source catal cells l table n → IsPlain n l
       → IsFirstTwice n l text → s ≡ whole_fault c.source kind.Twice (scalar text ∷ []) → IsFlatbehRefusal c source catal cells s
-  many_bits : (l : Library) (table : List ModelPins) (n : Netlist) (reached : ℕ) → AreRead source catal cells l table n → IsPlain n l
-      → AreApart n l → HasTooManyBits n l reached → s ≡ status.Limit (record { which = Bits; reached = reached })
-      → IsFlatbehRefusal c source catal cells s
-  many_names : (l : Library) (table : List ModelPins) (n : Netlist) (m : Machine) → AreRead source catal cells l table n
-      → IsPlain n l → AreApart n l → bits_of n l < 2 ^ 32 → IsFlat n l table m → length m.vars ≤ bits_of n l
-      → 2 ^ 32 ≤ names_count m → s ≡ status.Limit (record { which = Bits; reached = names_count m }) → IsFlatbehRefusal c source catal cells s
   vector_clock : (l : Library) (table : List ModelPins) (n : Netlist) (m : Machine) (name : Name) → AreRead source catal cells l table n
-      → IsPlain n l → AreApart n l → bits_of n l < 2 ^ 32 → IsFlat n l table m → names_count m < 2 ^ 32 → HasVectorClock m name
+      → IsPlain n l → AreApart n l → IsFlat n l table m → HasVectorClock m name
       → s ≡ whole_fault c.source kind.ClockUse (name ∷ []) → IsFlatbehRefusal c source catal cells s
 
 -- the machine is written and its size is printed, or one of these refusals
@@ -111,9 +94,14 @@ Flattens c source catal cells (Err r) = (r.part ≡ None) × IsFlatbehRefusal c 
 abbrev pub flatbeh_answers : FlatbehCommand → Inputs → Result Product Refusal → Type 0
 flatbeh_answers c i r = Flattens c (get_or i.first 0 []) (get_or i.first 1 []) i.more r
 
--- how a refusal of the netlist is told
+-- How a refusal of the netlist is told. No netlist that is read has too many bits.
 abbrev pub IsToldOf : FlatbehCommand → FlatError → Status → Type 0
 IsToldOf c flat.Memory s = ⊥
 IsToldOf c (flat.NoBehaviour model) s = s ≡ status.No (NoBehaviour model)
 IsToldOf c (flat.Twice text) s = s ≡ whole_fault c.source kind.Twice (scalar text ∷ [])
-IsToldOf c (flat.TooManyBits reached) s = s ≡ status.Limit (record { which = Bits; reached = reached })
+IsToldOf c (flat.TooManyBits reached) s = ⊥
+
+-- a refusal, and not for too many bits
+abbrev pub IsNotTooMany : FlatError → Type 0
+IsNotTooMany (flat.TooManyBits reached) = ⊥
+IsNotTooMany _ = Unit {0}

@@ -1,12 +1,12 @@
 // `flatbeh` as a tool: what it reads, and what it answers.
 ghost use Rattle.std.specs.Prelude.{◌≡◌, ◌∷◌, [], ℕ, List, MatchOption, false};
-ghost use Rattle.cell_lib.specs.Library.{IsLibraryOf};
+ghost use Rattle.cell_lib.specs.Library.{IsLibraryOf, IsRead};
 ghost use Rattle.tool_drive.specs.Refusals.{MemoryOr, whole_fault};
 ghost use Rattle.tool_drive.specs.Table.{IsJudged};
 ghost use Rattle.net_flat.specs.Flat.{HasScalarClock};
-ghost use Rattle.flatbeh_run.specs.Flatbeh.{names_count as count_of, HasVectorClock, Flattens, IsToldOf};
+ghost use Rattle.flatbeh_run.specs.Flatbeh.{HasVectorClock, Flattens, IsNotTooMany, IsToldOf};
 
-use crate::laws::netlist_has_words;
+use crate::laws::{netlist_has_few_bits, netlist_has_words};
 use crate::product::product;
 use crate::words::FlatbehCommand;
 use cell_checks::Library;
@@ -18,21 +18,12 @@ use std::alloc::{AllocError, Global};
 use tool_drive::{
     Answer, Product, Refusal, Status, Verdict, Wanted, bytes_at, named_fault, refused,
 };
-use vlsi_base::{FaultKind, FileBytes, FileName, Limit, LimitKind, Name};
+use vlsi_base::{FaultKind, FileBytes, FileName, Name};
 use vst_io::read_vst;
-
-// The status of 2^32 or more, so many.
-fn too_many(reached: u64) -> Status
-    ensures { result ≡ Status.Limit (record { which = LimitKind.Bits; reached = reached }) }
-{
-    Status::Limit(Limit {
-        which: LimitKind::Bits,
-        reached,
-    })
-}
 
 // How a refusal of the netlist is told.
 fn flat_status(alloc: Global, command: &FlatbehCommand, error: FlatError) -> Status
+    requires { IsNotTooMany error }
     ensures { MemoryOr result (IsToldOf command.now error result) }
 {
     match error {
@@ -41,15 +32,8 @@ fn flat_status(alloc: Global, command: &FlatbehCommand, error: FlatError) -> Sta
         FlatError::Twice(text) => {
             named_fault(alloc, &command.source, FaultKind::Twice, Name::scalar(text))
         }
-        FlatError::TooManyBits(reached) => too_many(reached),
+        FlatError::TooManyBits(_) => unreachable!(),
     }
-}
-
-// A machine's names and ports, which a text has to number.
-fn names_count(machine: &Machine) -> u64
-    ensures { result ≡ count_of machine.now }
-{
-    machine.vars().as_slice().len() as u64 + machine.ports().as_slice().len() as u64
 }
 
 // The clock, where it is a bit of a vector.
@@ -79,11 +63,13 @@ fn flattened(
     library: &Library,
     source: &[u8],
 ) -> Result<Product, Refusal>
+    requires { IsRead library.now }
     ensures { (catal : List ℕ) (cells : List (List ℕ)) → IsLibraryOf false catal cells library.now
         → IsJudged (Flattens command.now source.now catal cells) result }
 {
-    // What is read has names that can be written.
+    // What is read has names that can be written, and few of them.
     netlist_has_words();
+    netlist_has_few_bits();
     let table = pin_table(alloc, library, true)?;
     let netlist = match read_vst(alloc, source, &table) {
         Ok(netlist) => netlist,
@@ -93,11 +79,6 @@ fn flattened(
         Ok(machine) => machine,
         Err(error) => return Err(Refusal::plain(flat_status(alloc, command, error))),
     };
-    // More names and ports than a text can number are told before a vector clock.
-    let names = names_count(&machine);
-    if names > u64::from(u32::MAX) {
-        return Err(Refusal::plain(too_many(names)));
-    }
     if let Some(name) = vector_clock(&machine) {
         return Err(Refusal::plain(clock_status(alloc, command, name)));
     }
@@ -111,9 +92,8 @@ fn flattened(
 /// All files are read first: SOURCE, CATAL, and the behaviour and the layout of each cell that this uses. Then it is refused, in
 /// this order: by `Library`, or a limit of CATAL or of a cell, at the first line or cell at fault; by `Source`, or a limit, of
 /// SOURCE; by `NoBehaviour`, at the first instance whose cell is neither a gate nor a plain flip-flop; by `Source` of `Twice`, at the
-/// first flip-flop with the text of a port; by `Limit` of `Bits`, where the netlist's machine has 2^32 bits or more, or as
-/// many names and ports together, which a text has to number; by `Source` of `ClockUse`, where the clock is a bit of a vector, which a
-/// data-flow text can't have. Memory goes by the files, the netlist and its machine.
+/// first flip-flop with the text of a port; by `Source` of `ClockUse`, where the clock is a bit of a vector, which a data-flow text
+/// can't have. Such a netlist has few enough bits for its machine, since it was read. Memory goes by the files, the netlist and its machine.
 impl LibraryTool for FlatbehCommand {
     ghost use Rattle.std.specs.Prelude.{refl, [], ◌∷◌};
     ghost use Rattle.tool_drive.specs.Plan.{large};

@@ -58,7 +58,7 @@ rising_differ (x ∷ xs) h = (
 
 -- ---- the names at some places
 
-in_names : (names : List Name) (x : Name) (places : List ℕ) → In x (names_at names places) → (k : ℕ) × In k places × (slice_get names k ≡ Some x)
+pub in_names : (names : List Name) (x : Name) (places : List ℕ) → In x (names_at names places) → (k : ℕ) × In k places × (slice_get names k ≡ Some x)
 in_names names x [] i = elim i [ ]
 in_names names x (k ∷ places) i = by (slice_get names k) refl (in_names names x places) i where
   by : (o : Option Name) → slice_get names k ≡ o → (In x (names_at names places) → (j : ℕ) × In j places × (slice_get names j ≡ Some x))

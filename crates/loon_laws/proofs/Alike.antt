@@ -36,13 +36,14 @@ use Rattle.loon_drive.specs.Driven.{most_sinks}
 use Rattle.loon_drive.specs.Laws.{AreExchanged, CellsStay}
 use Rattle.loon_laws.specs.Meaning.{ShowsSame, BehavesAs}
 use Rattle.loon_laws.specs.MeaningLaws.{DrivenBehavesAsBefore, BufferedBehavesAsBefore}
-use Rattle.loon_laws.proofs.Lists.{more_in, IsMadeOf}
+use Rattle.net_bits.proofs.Lists.{more_in, IsMadeOf}
 use Rattle.loon_laws.proofs.Behind.{all_terminals, HaveValues, Behind}
 use Rattle.loon_laws.proofs.Limiting.{IsReady, returns, limited_behind}
-use Rattle.loon_laws.proofs.Bits.{Gives, Cycle, AreBits, AreAmong, bits_of, bits_same, bits_shown, valuation_of, settles_by}
+use Rattle.net_bits.proofs.Bits.{Gives, Cycle, AreBits, AreAmong, bits_of, bits_same, bits_shown, valuation_of, settles_by}
 use Rattle.loon_laws.proofs.Exchanging.{AreChosen, chosen, terminals_same, bits_to, bits_from}
-use Rattle.loon_laws.proofs.Numbers.{IsByClass, renumbered, renumbered_bit}
-use Rattle.loon_laws.proofs.Held.{loaded_by, HoldNothing, next_is, held_same, held_before, held_exchanged}
+use Rattle.net_bits.proofs.Numbers.{IsByClass, renumbered, renumbered_bit}
+use Rattle.net_bits.proofs.Held.{loaded_by, HoldNothing, next_is, held_same, held_before}
+use Rattle.loon_laws.proofs.Held.{held_exchanged}
 
 -- ---- instances behind those of a netlist
 

@@ -20,7 +20,7 @@ use Rattle.loon_fanout.specs.Laws.{gate_named}
 use Rattle.loon_fanout.proofs.Picking.{is_false}
 use Rattle.loon_fanout.proofs.RightPins.{own_class, input, output, in_inputs, in_outputs, input_class, output_class}
 use Rattle.loon_fanout.proofs.RightStates.{IsGateCell}
-use Rattle.loon_laws.proofs.Lists.{In-one, input_pin, output_pin, Origin, of_port, of_pin, origin, port_in, pin_in, more_in}
+use Rattle.net_bits.proofs.Lists.{In-one, input_pin, output_pin, Origin, of_port, of_pin, origin, port_in, pin_in, more_in}
 
 abbrev pub all_terminals : Wired → List Terminal
 all_terminals w = terminals_of w.ports w.instances

@@ -13,7 +13,7 @@ use Rattle.net_core.specs.Netlist.{Instance, port, pins_of, terminals_of}
 use Rattle.net_meaning.specs.Behaviour.{Contents}
 use Rattle.net_theory.specs.Exchanges.{IsSameFunction, IsDrive}
 use Rattle.loon_buffer.specs.Drives.{IsChosenFor}
-use Rattle.loon_laws.proofs.Bits.{pins_by, Gives, Cycle, AreBits}
+use Rattle.net_bits.proofs.Bits.{pins_by, Gives, Cycle, AreBits}
 
 -- ---- two lists of instances, one by one
 

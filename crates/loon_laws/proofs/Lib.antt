@@ -1,10 +1,7 @@
-pub mod Lists
 pub mod Behind
 pub mod Moving
 pub mod Limiting
-pub mod Bits
 pub mod Exchanging
-pub mod Numbers
 pub mod Held
 pub mod Alike
 pub mod Running

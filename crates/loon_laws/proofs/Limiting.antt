@@ -19,7 +19,7 @@ use Rattle.loon_fanout.specs.Laws.{gate_named}
 use Rattle.loon_fanout.proofs.Splitting.{sink_at}
 use Rattle.loon_fanout.proofs.RightStates.{IsGateCell}
 use Rattle.loon_fanout.proofs.RightRounds.{AreNew, Repeats, once, twice, in_groups, some_of}
-use Rattle.loon_laws.proofs.Lists.{pin_in, input_pin, IsMadeOf}
+use Rattle.net_bits.proofs.Lists.{pin_in, input_pin, IsMadeOf}
 use Rattle.loon_laws.proofs.Behind.{all_terminals, AreNumbered, Behind, nothing_behind, kept_in, both_behind}
 use Rattle.loon_laws.proofs.Moving.{Reads, AreApart, Grown, one_gate, two_gates}
 

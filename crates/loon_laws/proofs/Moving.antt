@@ -18,7 +18,7 @@ use Rattle.loon_fanout.proofs.Terminals.{terminal_same}
 use Rattle.loon_fanout.proofs.RightPins.{input, output}
 use Rattle.loon_fanout.proofs.RightStates.{IsGateCell}
 use Rattle.loon_fanout.proofs.RightRounds.{AreNew}
-use Rattle.loon_laws.proofs.Lists.{In-one, Origin, of_port, of_pin, origin}
+use Rattle.net_bits.proofs.Lists.{In-one, Origin, of_port, of_pin, origin}
 use Rattle.loon_laws.proofs.Behind.{all_terminals, AreNumbered, value, HaveValues, Behind, kept_in, earlier, new_value, gate_behind}
 
 -- a terminal with this class

@@ -1,6 +1,7 @@
 -- The netlist with buffers and with cells exchanged can be written.
 use Rattle.std.proofs.Common.{◌≡◌, inl, inr, ℕ, zero, suc, ◌<◌, false, List, [], ◌∷◌, map, length, refl, sym, ap, ◌∙◌, subst, arith}
 use Rattle.std.specs.Prelude.{codes}
+use Rattle.vlsi_base.specs.declared.name.Name.{Name}
 use Rattle.vlsi_base.specs.Member.{In}
 use Rattle.vlsi_base.specs.Names.{vdd, vss}
 use Rattle.text_names.specs.Words.{IsIdentifier, CanBePorts}
@@ -27,8 +28,10 @@ use Rattle.loon_drive.proofs.Fitting.{found, timed, fits_again}
 use Rattle.vst_io.specs.Text.{IsVst}
 use Rattle.vst_laws.specs.Writable.{NetlistHasNames, NetlistCanBeNamed, TableCanBeWritten}
 use Rattle.vst_laws.proofs.Pins.{said_in, name_in}
+use Rattle.vst_room.specs.Room.{HasScalarPins, HasFewPins}
+use Rattle.vst_room.proofs.Cells.{cell_is_scalar}
 use Rattle.loon_run.specs.Loon.{IsMade, bare, driven}
-use Rattle.loon_run.specs.Laws.{HasUsableCells, NetlistIsDrivable, DrivenIsWritable}
+use Rattle.loon_run.specs.Laws.{HasUsableCells, NetlistIsDrivable, NetlistHasRoom, DrivenIsWritable}
 use Rattle.loon_run.proofs.Lists.{stands_in}
 use Rattle.loon_run.proofs.Numbered.{numbered_word}
 
@@ -45,6 +48,20 @@ netlist_is_drivable passes catal files l table n library of sound met = record {
   tied = met.tied;
   timed = timed l table of (passes false catal files l library) n met.fits met.passes;
 }
+
+-- ---- it has room for buffers
+
+scalar_pins : (l : Library) (n : Netlist) → HasUsableCells l n → HasScalarPins n
+scalar_pins l n cells i pin at h =
+    let there_is = in_place i n.instances at in
+    let f = (cells i there_is).found i there_is in
+    cell_is_scalar f.0 f.2.scalars pin (subst (λ (ns : List Name). In pin ns) f.3 h)
+
+pub netlist_has_room : LibraryPasses → HasFewPins → NetlistHasRoom
+netlist_has_room passes room catal source files l table n library of is met =
+    let cells = (netlist_is_drivable passes catal files l table n library of is.netlist.sound met).cells in
+    let fits = room source table n is met (scalar_pins l n cells) in
+    omega (arith, fits)
 
 -- ---- names
 

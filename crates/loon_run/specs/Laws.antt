@@ -10,7 +10,7 @@ use Rattle.net_core.specs.Checks.{Fits, IsPinTable}
 use Rattle.net_right.specs.Condition.{MeetsCondition}
 use Rattle.net_right.specs.Writable.{CanBeNamed, PinsCanBeWritten}
 use Rattle.delay_sta.specs.Timed.{CanBeTimed}
-use Rattle.loon_fanout.specs.Limited.{IsOfCells}
+use Rattle.loon_fanout.specs.Limited.{HasRoomForGates, IsOfCells}
 use Rattle.loon_fanout.specs.Laws.{IsTied}
 use Rattle.vst_io.specs.Text.{IsVst}
 use Rattle.loon_run.specs.Loon.{IsMade}
@@ -31,6 +31,12 @@ abbrev pub NetlistIsDrivable : Type 0
 NetlistIsDrivable =
     (catal : List ℕ) (files : List (List ℕ)) (l : Library) (table : List ModelPins) (n : Netlist) → IsLibraryOf false catal files l
     → IsTableOf l false table → IsNetlist n → MeetsCondition table n → IsDrivable l n
+
+-- and one that is read with these pins has few enough ports and pins for all buffers
+abbrev pub NetlistHasRoom : Type 0
+NetlistHasRoom =
+    (catal source : List ℕ) (files : List (List ℕ)) (l : Library) (table : List ModelPins) (n : Netlist) → IsLibraryOf false catal files l
+    → IsTableOf l false table → IsVst source table n → MeetsCondition table n → HasRoomForGates n
 
 -- what becomes of it can be written with these pins
 pub record IsWritable (table : List ModelPins) (k : Netlist) : Type 0 where

@@ -1,6 +1,5 @@
 -- What `loon` reads and answers.
-use Rattle.std.specs.Prelude.{◌≡◌, ℕ, ◌^◌, ◌<◌, ◌≤◌, false, List, [], ◌∷◌, ◌++◌, length, get_or, codes, None, Some, Result, Ok, Err}
-use Rattle.vlsi_base.specs.declared.fault.LimitKind.TheVariants.{Bits}
+use Rattle.std.specs.Prelude.{◌≡◌, ℕ, false, List, [], ◌∷◌, ◌++◌, length, get_or, codes, None, Some, Result, Ok, Err}
 use Rattle.vlsi_base.specs.declared.kind.Kind.TheVariants as kind
 use Rattle.cell_model.specs.Library.{Library}
 use Rattle.cell_lib.specs.declared.error.LibError.{LibError}
@@ -8,7 +7,7 @@ use Rattle.cell_lib.specs.Files.{with_library}
 use Rattle.cell_lib.specs.Library.{IsLibraryOf, IsRefusedLibrary, status_of}
 use Rattle.cell_pins.specs.Table.{IsTableOf}
 use Rattle.net_core.specs.declared.pins.ModelPins.{ModelPins}
-use Rattle.net_core.specs.Netlist.{Netlist, IsNetlist, terminals}
+use Rattle.net_core.specs.Netlist.{Netlist, IsNetlist}
 use Rattle.loon_fanout.specs.declared.error.BufferError.{BufferError}
 use Rattle.loon_fanout.specs.declared.error.BufferError.TheVariants as error
 use Rattle.loon_fanout.specs.Limited.{IsCrowded, HasFanout, IsOfCells, StaysRight}
@@ -55,21 +54,12 @@ pub data IsMade (n : Netlist) (l : Library) (fanout : ℕ) : Netlist → ℕ →
   driven : {k : Netlist} {delay : ℕ} → IsOfCells n l → IsDrivenFrom n l fanout k delay → HasFanout l (most_sinks fanout) k
       → IsMade n l fanout k delay
 
--- a netlist without instances, or with fewer than 2^27 ports and pins
-abbrev pub HasRoom : Netlist → Type 0
-HasRoom n = 0 < length n.instances → length (terminals n) < 2 ^ 27
-
--- the refusal of a netlist for the number of its ports and pins
-abbrev pub pins_limit : Netlist → Status
-pins_limit n = status.Limit (record { which = Bits; reached = length (terminals n) })
-
 -- Library and netlist are read, and what is made of it is written; it is right for each machine that the read one is right for.
 pub record IsLimiting (c : LoonCommand) (source catal : List ℕ) (cells : List (List ℕ)) (p : Product) : Type 0 where
   pub l : Library
   pub table : List ModelPins
   pub n : Netlist
   pub read : AreRead source catal cells l table n
-  pub room : HasRoom n
   pub k : Netlist
   pub delay : ℕ
   pub sound : IsNetlist k
@@ -77,15 +67,13 @@ pub record IsLimiting (c : LoonCommand) (source catal : List ℕ) (cells : List 
   pub right : StaysRight n l k
   pub written : IsWrittenAs c.out table k delay p
 
--- What is refused, in this order: the library, the netlist, too many ports and pins of one that has an instance, and a net with too
--- many sinks where the library has neither a buffer nor an inverter.
+-- What is refused, in this order: the library, the netlist, and a net with too many sinks where the library has neither a buffer nor
+-- an inverter.
 pub data IsLoonRefusal (c : LoonCommand) (source catal : List ℕ) (cells : List (List ℕ)) (s : Status) : Type 0 where
   no_library : (e : LibError) → IsRefusedLibrary false catal cells e → s ≡ status_of e → IsLoonRefusal c source catal cells s
   bad_netlist : (l : Library) (table : List ModelPins) → IsLibraryOf false catal cells l → IsTableOf l false table
       → OfFile c.source (IsVstRefusal source table) s → IsLoonRefusal c source catal cells s
-  many_pins : (l : Library) (table : List ModelPins) (n : Netlist) → AreRead source catal cells l table n → 0 < length n.instances
-      → 2 ^ 27 ≤ length (terminals n) → s ≡ pins_limit n → IsLoonRefusal c source catal cells s
-  no_buffer : (l : Library) (table : List ModelPins) (n : Netlist) → AreRead source catal cells l table n → HasRoom n
+  no_buffer : (l : Library) (table : List ModelPins) (n : Netlist) → AreRead source catal cells l table n
       → IsCrowded l (most_sinks c.fanout) n → NoneRepeats l.cells → s ≡ status.NoCover kind.Inv → IsLoonRefusal c source catal cells s
 
 -- the netlist is written and the report is printed, or one of these refusals

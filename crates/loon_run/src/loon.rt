@@ -1,12 +1,12 @@
 // `loon` as a tool: what it reads, and what it answers.
-ghost use Rattle.std.specs.Prelude.{◌≡◌, ◌^◌, ◌<◌, ◌≤◌, ℕ, List, OnOk, IfOk, IfErr, length, false};
-ghost use Rattle.net_core.specs.Netlist.{IsNetlist, terminals};
+ghost use Rattle.std.specs.Prelude.{◌≡◌, ℕ, List, IfOk, IfErr, false};
+ghost use Rattle.net_core.specs.Netlist.{IsNetlist};
 ghost use Rattle.cell_lib.specs.Library.{IsLibraryOf, IsRead};
-ghost use Rattle.loon_fanout.specs.Limited.{StaysRight, IsBufferRefusal};
+ghost use Rattle.loon_fanout.specs.Limited.{HasRoomForGates, StaysRight, IsBufferRefusal};
 ghost use Rattle.loon_drive.specs.Driven.{most_sinks};
 ghost use Rattle.tool_drive.specs.Refusals.{MemoryOr};
 ghost use Rattle.tool_drive.specs.Table.{IsJudged};
-ghost use Rattle.loon_run.specs.Loon.{IsMade, HasRoom, pins_limit, IsToldOf, Limits};
+ghost use Rattle.loon_run.specs.Loon.{IsMade, IsToldOf, Limits};
 ghost use Rattle.loon_run.specs.Laws.{HasUsableCells, IsDrivable};
 
 use crate::laws::loon_law;
@@ -20,24 +20,8 @@ use loon_fanout::BufferError;
 use net_core::Netlist;
 use std::alloc::{AllocError, Global};
 use tool_drive::{Answer, Kind, Product, Refusal, Status, Wanted, bytes_at, refused};
-use vlsi_base::{FileBytes, FileName, Limit, LimitKind};
+use vlsi_base::{FileBytes, FileName};
 use vst_io::read_vst;
-
-// Whether gates can be put in, or the status that tells that there are too many ports and pins; without instances there are none to put
-// in. Takes no memory.
-fn check_room(netlist: &Netlist) -> Result<(), Status>
-    ensures room { OnOk result (HasRoom netlist.now) }
-    ensures full { IfErr result (λ s. (0 < length netlist.now.instances) × (2 ^ 27 ≤ length (terminals netlist.now)) × (s ≡ pins_limit netlist.now)) }
-{
-    let pins = netlist.classes().len();
-    if netlist.nodes().is_empty() || pins < 1 << 27 {
-        return Ok(());
-    }
-    Err(Status::Limit(Limit {
-        which: LimitKind::Bits,
-        reached: pins as u64,
-    }))
-}
 
 // What is made of a netlist; one without instances stays as it is.
 fn driven(
@@ -47,7 +31,7 @@ fn driven(
     fanout: u32,
 ) -> Result<Driven, BufferError>
     requires drivable { IsDrivable library.now netlist }
-    requires room { HasRoom netlist }
+    requires room { HasRoomForGates netlist }
     ensures sound { IfOk result (λ d. IsNetlist d.netlist) }
     ensures made { IfOk result (λ d. IsMade netlist library.now fanout d.netlist d.delay) }
     ensures cells { IfOk result (λ d. HasUsableCells library.now d.netlist) }
@@ -87,9 +71,6 @@ fn limited(
         Ok(netlist) => netlist,
         Err(error) => return Err(Refusal::plain(refused(alloc, &command.source, error))),
     };
-    if let Err(full) = check_room(&netlist) {
-        return Err(Refusal::plain(full));
-    }
     let driven = match driven(alloc, netlist, library, command.fanout) {
         Ok(driven) => driven,
         Err(error) => return Err(Refusal::plain(drive_status(error))),
@@ -104,9 +85,9 @@ fn limited(
 ///
 /// All files are read first: SOURCE, CATAL, and the behaviour and the layout of each cell that this uses. Then it is refused, in this
 /// order: by `Library`, or a limit of CATAL or of a cell, at the first line or cell at fault; by `Source`, or a limit, of SOURCE, in
-/// which cells that aren't usable are unknown; by `Limit` of `Bits`, where the netlist has an instance and 2^27 or more
-/// ports and pins, with their number; by `NoCover` of an inverter, where a net has too many sinks and the library has neither a buffer nor an
-/// inverter. Memory goes by the files, the netlist, its arcs, and each pair of cells of which one can stand for the other.
+/// which cells that aren't usable are unknown; by `NoCover` of an inverter, where a net has too many sinks and the library has neither a
+/// buffer nor an inverter. A netlist that is read has few enough ports and pins for all buffers. Memory goes by the files, the
+/// netlist, its arcs, and each pair of cells of which one can stand for the other.
 impl LibraryTool for LoonCommand {
     ghost use Rattle.std.specs.Prelude.{refl, [], ◌∷◌};
     ghost use Rattle.tool_drive.specs.Plan.{large};

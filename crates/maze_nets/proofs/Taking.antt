@@ -44,6 +44,10 @@ bare g nets o r are is =
     empty : (p : Node) → In p (tree_nodes None) → ⊥
     empty p i = elim i [ ]
 
+-- and the router keeps who owned each node when it began
+pub kept_reserved : (g : Grid) (nets : List NetPoints) (o : Owners) (r : Routing) → AreReserved g (net_reserved nets) o → IsBare o r → AreReserved g (net_reserved nets) r.reserved
+kept_reserved g nets o r are is = subst (AreReserved g (net_reserved nets)) (sym is.reserved) are
+
 -- ---- the trees of earlier nets stay
 free_kept : (g : Grid) (reserved : ℕ → List Node) (nets : ℕ) (routes other : NetRoutes) (earlier : List ℕ) (k : ℕ) (p : Node) → ((j : ℕ) → In j earlier → other j ≡ routes j)
     → IsFreeAfter g reserved routes nets earlier k p → IsFreeAfter g reserved other nets earlier k p

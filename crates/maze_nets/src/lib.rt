@@ -10,4 +10,6 @@ mod ties;
 
 pub use error::RouteError;
 pub use points::NetPoints;
-pub use routing::route_nets;
+pub use ranks::net_order;
+pub use routing::{route_nets, router_for};
+pub use ties::Ties;

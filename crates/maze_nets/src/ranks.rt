@@ -6,8 +6,9 @@ ghost use Rattle.maze_nets.specs.Nets.{half_perimeter};
 use crate::points::{NetPoints, half_perimeter};
 use std::alloc::{AllocError, Global};
 
-/// The numbers of nets by half perimeter, then by number.
-pub(crate) fn net_order(alloc: Global, nets: &[NetPoints]) -> Result<Vec<u32>, AllocError>
+/// The numbers of nets in the order in which they are routed: by half perimeter, then by number. Takes memory for
+/// each net.
+pub fn net_order(alloc: Global, nets: &[NetPoints]) -> Result<Vec<u32>, AllocError>
     requires { length nets.now < 4294967295 }
     ensures { IfOk result (λ order. IsNetOrder (half_perimeter nets.now) (length nets.now) order.items) }
 {

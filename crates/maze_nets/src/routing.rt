@@ -5,7 +5,7 @@ ghost use Rattle.grid_core.specs.Shown.{tree_in};
 ghost use Rattle.grid_core.specs.Trees.{AreRoutes, AreWhole, IsWhole, IsNetOrder};
 ghost use Rattle.nero_maze.specs.Routing.{tree_of, IsBare, NoneFrom};
 ghost use Rattle.maze_nets.specs.Nets.{net_points, net_reserved, half_perimeter, AreRoutable};
-ghost use Rattle.maze_nets.specs.Progress.{IsOrderly, Grows, Stops, HasRouted};
+ghost use Rattle.maze_nets.specs.Progress.{AreReserved, IsOrderly, Grows, Stops, HasRouted};
 ghost use Rattle.maze_nets.specs.Answers.{AreOrdered, AreStuck, IsRefusal};
 
 use crate::error::RouteError;
@@ -70,13 +70,20 @@ fn route_in_order(router: &mut Router, nets: &[NetPoints], order: &[u32]) -> Opt
     None
 }
 
-/// A router in which each net owns what is reserved for it.
-fn begin(alloc: Global, grid: Grid, nets: &[NetPoints], ties: Ties) -> Result<Router, AllocError>
+/// A router over a grid in which each net owns what is reserved for it, and none has a tree. Takes 22 bytes a node, and none for what
+/// the router's later calls need.
+pub fn router_for(
+    alloc: Global,
+    grid: Grid,
+    nets: &[NetPoints],
+    ties: Ties,
+) -> Result<Router, AllocError>
     requires few_nodes { nodes grid < 4294967295 }
     requires few { length nets.now < 4294967295 }
     requires routable { AreRoutable grid nets.now }
     ensures grid { IfOk result (λ r. r.occupied.grid ≡ grid) }
     ensures bare { IfOk result (λ r. HasRouted grid nets.now [] r) }
+    ensures reserved { IfOk result (λ r. AreReserved grid (net_reserved nets.now) r.reserved) }
 {
     let mut occupied = Occupied::begin(alloc, grid)?;
     reserve(&mut occupied, nets);
@@ -101,7 +108,7 @@ fn attempt(
     ensures ordered { IfOk result (λ r. AreOrdered grid nets.now (tree_in r)) }
     ensures refused { IfErr result (λ e. IsRefusal grid nets.now e) }
 {
-    let mut router = begin(alloc, grid, nets, ties)?;
+    let mut router = router_for(alloc, grid, nets, ties)?;
     let stuck = route_in_order(&mut router, nets, order);
     let routes = router.routes(alloc, nets.len())?;
     match stuck {
@@ -149,7 +156,7 @@ fn attempts(
 /// The routes of nets over a grid: by half perimeter, then by number, each by least paths from its first point on, beside the trees
 /// of those before it and what is reserved for others. A net's port and its terminals are its points; reserved for it are these and
 /// the nodes above its terminals. Refused exactly where a net gets stuck so. Which of several least paths is taken is free; where a net
-/// gets stuck, others are tried. Takes 18 bytes a node, and memory for the routes.
+/// gets stuck, others are tried. Takes 22 bytes a node, and memory for the routes.
 pub fn route_nets(alloc: Global, grid: Grid, nets: &[NetPoints]) -> Result<Routes, RouteError>
     requires few_nodes { nodes grid < 4294967295 }
     requires few { length nets.now < 4294967295 }

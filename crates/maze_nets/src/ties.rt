@@ -1,6 +1,9 @@
 // Which of several paths of one cost is taken: penalties for nodes, so that later nets find room. No clause speaks of them.
 use crate::points::NetPoints;
 use grid_core::{Grid, Node};
+use rand_core::SeedableRng;
+use rand_core::utils::NextWord;
+use rand_pcg::Pcg32;
 use std::alloc::{AllocError, Global};
 
 /// How many rows below the ports' edge other nets' wires are held off, and how many in the columns of ports.
@@ -15,13 +18,18 @@ const PORT_PENALTY: u8 = 4;
 
 const BESIDE_PORT_PENALTY: u8 = 16;
 
+/// What chance adds to a node's penalty is less than this.
+const DRAWN_PENALTIES: u32 = 4;
+
 /// What is preferred among paths of one cost.
 #[derive(Clone, Copy)]
-pub(crate) enum Ties {
+pub enum Ties {
     /// Nodes away from the ports' edge, on high metals.
     High,
     /// Nodes away from the ports' edge, and not beside those of terminals.
     Apart,
+    /// As `High`, and besides nodes that are drawn by the words of a generator with this seed.
+    Drawn(u32),
     /// The first path that is found.
     First,
 }
@@ -39,7 +47,7 @@ impl Penalties {
         let mut marks = Vec::new(alloc);
         for metal in 2..=grid.metals {
             let own = match ties {
-                Ties::High => grid.metals - metal,
+                Ties::High | Ties::Drawn(_) => grid.metals - metal,
                 Ties::Apart | Ties::First => 0,
             };
             for row in 0..grid.rows {
@@ -75,6 +83,15 @@ impl Penalties {
         };
         if at < self.marks.len() {
             self.marks[at] = self.marks[at].saturating_add(more);
+        }
+    }
+
+    /// Each node's penalty grows by chance.
+    fn draw(&mut self, seed: u32) {
+        let mut words = Pcg32::seed_from_u64(u64::from(seed));
+        for at in 0..self.marks.len() {
+            let drawn = (words.next_word() % DRAWN_PENALTIES) as u8;
+            self.marks[at] = self.marks[at].saturating_add(drawn);
         }
     }
 
@@ -133,6 +150,9 @@ pub(crate) fn penalties_by(
         return Ok(Vec::new(alloc));
     }
     let mut penalties = Penalties::begin(alloc, grid, ties)?;
+    if let Ties::Drawn(seed) = ties {
+        penalties.draw(seed);
+    }
     for net in nets {
         if let Some(port) = net.port {
             penalties.add_port(port);

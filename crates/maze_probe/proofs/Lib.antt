@@ -2,3 +2,4 @@ mod Members
 mod Spread
 mod Routable
 mod Building
+mod Few

@@ -27,6 +27,7 @@ impl Trial {
         let (nets, pins) = match kind {
             "pins" => (1, count),
             "pairs" => (count, 2),
+            "triples" => (count, 3),
             _ => return None,
         };
         let metals = u8::try_from(metals).ok()?;

@@ -7,3 +7,8 @@ mod Ties
 mod Growth
 mod Telling
 mod Sounds
+mod Cutting
+mod Tearing
+mod Shortening
+mod Blocking
+mod Tracing

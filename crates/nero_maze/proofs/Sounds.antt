@@ -17,10 +17,11 @@ use Rattle.nero_maze.specs.Search.{IsRoom, IsFree, IsOwn, IsIdle, Kept}
 use Rattle.nero_maze.specs.Claims.{LeadsBack, Told, Changed}
 use Rattle.nero_maze.specs.Routing.{Move, Began, Joined, routes_of, IsPoint, Begins, Connects}
 use Rattle.nero_maze.specs.Board.{move_at, moves_in, moves_of, routing_of, AreBegun, IsSound, Logs, Touches, Reaches, IsStuck}
+use Rattle.nero_maze.specs.Ripping.{NoWay}
 use Rattle.nero_maze.proofs.Theory.{room, Kept-none}
 use Rattle.nero_maze.proofs.Claiming.{Told-more, changed_more}
 use Rattle.nero_maze.proofs.Neighbours.{facts}
-use Rattle.nero_maze.proofs.Ties.{table, owner_not, free_word, leads_nodes, leads_numbers, Comes}
+use Rattle.nero_maze.proofs.Ties.{table, owner_not, free_word, leads_nodes, leads_numbers, Comes, IsKin}
 use Rattle.nero_maze.proofs.Growth.{Grows, joined_grows, began_grows, follow_told, move_same, moves_same, points_known, test_other}
 
 -- ---- lists
@@ -34,7 +35,7 @@ from_map f [] p h = elim h [ ]
 from_map f (x ∷ xs) p here = (x, here, refl)
 from_map f (x ∷ xs) p (there h) = let r = from_map f xs p h in (r.0, there r.1, r.2)
 
-decide : (v : ℕ) (vs : List ℕ) → In v vs ⊎ (In v vs → ⊥)
+pub decide : (v : ℕ) (vs : List ℕ) → In v vs ⊎ (In v vs → ⊥)
 decide v [] = inr (λ h. elim h [ ])
 decide v (x ∷ xs) = elim (cases_eq v x) [
   | inl e ↦ inl (subst (λ (w : ℕ). In v (w ∷ xs)) e here)
@@ -57,6 +58,9 @@ pub record Step (b b' : Board) (net target mark : ℕ) (path : List ℕ) (m : Mo
   pub move : move_at b.room.grid b'.room.owners.items b'.room.links.items b'.log.marks.items target ≡ m
   pub grows : Grows (routes_of (moves_of b)) (routes_of (m ∷ moves_of b)) net (map (node_of b.room.grid) path)
   pub begun : AreBegun (m ∷ moves_of b)
+  pub reserved : b'.reserved ≡ b.reserved
+  pub free : (v : ℕ) → In v path → IsFree b.room.owners.items net v
+  pub rooted : (v : ℕ) → In v path → slice_index b.room.links.items v ≡ 0 → slice_index b'.room.links.items v ≡ 9 → (v ≡ target) × (mark ≡ 1)
 
 pub moves_step : (b b' : Board) (net target mark : ℕ) (path : List ℕ) (m : Move) → IsSound b → Step b b' net target mark path m
     → moves_in b.room.grid b'.room.owners.items b'.room.links.items b'.log.marks.items b'.log.order.items b'.log.count ≡ m ∷ moves_of b
@@ -172,6 +176,38 @@ sound_step b b' net target mark path m s t =
       forth = subst (λ (h : Grid). (v : ℕ) → v < nodes h → slice_index l' v ≢ 0 → In (node_of h v) (tree_nodes (routes_of (moves_of b') (slice_index o' v)))) (sym t.grid) forth;
       back = subst (λ (h : Grid). (k : ℕ) (q : Node) → In q (tree_nodes (routes_of (moves_of b') k)) → IsInGrid h q × IsOwn o' l' k (number h q)) (sym t.grid) back;
       begun = subst (λ (ns : List Move). AreBegun ns) (sym whole) t.begun;
+      sized = rw (t.reserved, t.grid) s.sized;
+      fixed = subst (λ (r : List ℕ). (v : ℕ) → slice_index r v ≢ 4294967295 → slice_index o' v ≡ slice_index r v) (ap (λ r. r.items) (sym t.reserved)) (λ v fixed.
+          elim (decide v path) [
+            | inr out ↦ (t.changed.others v out).0 ∙ s.fixed v fixed
+            | inl i ↦ (
+                let held = s.fixed v fixed in
+                elim (t.free v i) [
+                  | inl nobody ↦ absurd (fixed (sym held ∙ nobody))
+                  | inr mine ↦ (t.changed.mine v i).0 ∙ (sym mine ∙ held)
+                ])
+          ]);
+      untaken = subst (λ (r : List ℕ). (v : ℕ) → slice_index l' v ≡ 0 → slice_index o' v ≡ slice_index r v) (ap (λ r. r.items) (sym t.reserved)) (λ v z.
+          elim (decide v path) [
+            | inl i ↦ absurd ((t.changed.mine v i).1 z)
+            | inr out ↦ (let same = t.changed.others v out in same.0 ∙ s.untaken v (sym same.1 ∙ z))
+          ]);
+      rooted = λ v nine.
+          let nz : slice_index l' v ≢ 0 = omega arith in
+          let at_target : v ≡ target → mark ≡ 1 → slice_index ms' v ≡ 1 = λ e one.
+          let is : slice_index ms' target ≡ mark = rw t.log.marks (get_or-set_same ms target mark 0 lt) in
+          ap (λ w. slice_index ms' w) e ∙ (is ∙ one) in
+          elim (cases_eq (slice_index l v) 0) [
+            | inl z ↦ elim (from v nz) [
+              | inl old ↦ absurd (old z)
+              | inr i ↦ (let r = t.rooted v i z nine in at_target r.0 r.1)
+            ]
+            | inr old ↦ (
+                let was = s.rooted v (sym (stays v old) ∙ nine) in
+                let ne : v ≢ target = λ e. (let none = ap (λ w. slice_index ms w) e ∙ t.fresh in let no : ⊥ = omega arith in no) in
+                let kept : slice_index ms' v ≡ slice_index ms v = rw t.log.marks (get_or-set_other ms target v mark 0 ne) in
+                kept ∙ was)
+          ];
     }
 
 -- the owners as they became
@@ -190,9 +226,9 @@ taken g g' net path o l o' l' eg small h =
     }
 
 -- ---- begin
-pub sound_bare : (b : Board) → IsRoom b.room → IsIdle b.frontier.order.items b.frontier.marks.items (nodes b.room.grid) → IsIdle b.log.order.items b.log.marks.items (nodes b.room.grid) → b.log.count ≡ 0
+pub sound_bare : (b : Board) → b.room.owners.items ≡ b.reserved.items → IsRoom b.room → IsIdle b.frontier.order.items b.frontier.marks.items (nodes b.room.grid) → IsIdle b.log.order.items b.log.marks.items (nodes b.room.grid) → b.log.count ≡ 0
     → ((v : ℕ) → slice_index b.room.links.items v ≡ 0) → IsSound b × (moves_of b ≡ [])
-sound_bare b room idle log count unlinked =
+sound_bare b same room idle log count unlinked =
     let none : moves_of b ≡ [] = rw count refl in
     let empty : Kept b.log.order.items b.log.marks.items 0 = Kept-none b.log.order.items b.log.marks.items (log.places ∙ sym log.size) log.clear in (
       record {
@@ -206,6 +242,10 @@ sound_bare b room idle log count unlinked =
         forth = λ v lt nz. absurd (nz (unlinked v));
         back = λ k q h. (let h' = rw none at h in elim h' [ ]);
         begun = rw none tt;
+        sized = ap (λ (xs : List ℕ). length xs) (sym same) ∙ room.owners;
+        fixed = λ v fixed. ap (λ (xs : List ℕ). slice_index xs v) same;
+        untaken = λ v z. ap (λ (xs : List ℕ). slice_index xs v) same;
+        rooted = λ v nine. (let z = unlinked v in let no : ⊥ = omega arith in absurd no);
       },
       none,
     )
@@ -232,9 +272,9 @@ bare_log b v s z = elim (cases_eq (slice_index b.log.marks.items v) 0) [ inl e �
 pub seated : (b b' : Board) (net : ℕ) (q : Node) → IsSound b → net ≢ 4294967295 → routes_of (moves_of b) net ≡ None
     → owners.IsFree (table b.room.grid b.room.owners.items) net q
     → b'.room.grid ≡ b.room.grid → b'.room.owners.items ≡ set b.room.owners.items (number b.room.grid q) net
-    → b'.room.links.items ≡ set b.room.links.items (number b.room.grid q) 9 → Logs (number b.room.grid q) 1 b.log b'.log → b'.frontier ≡ b.frontier
+    → b'.room.links.items ≡ set b.room.links.items (number b.room.grid q) 9 → Logs (number b.room.grid q) 1 b.log b'.log → b'.frontier ≡ b.frontier → b'.reserved ≡ b.reserved
     → IsSound b' × Begins net q (routing_of b) (routing_of b')
-seated b b' net q s small none free eg eo el log idle =
+seated b b' net q s small none free eg eo el log idle er =
     let g = b.room.grid in
     let o = b.room.owners.items in
     let l = b.room.links.items in
@@ -270,9 +310,12 @@ seated b b' net q s small none free eg eo el log idle =
       move = rw (mark, link, owner, at) refl;
       grows = rw at (began_grows (routes_of (moves_of b)) net q none);
       begun = (none, s.begun);
+      reserved = er;
+      free = λ w i. elim (first_or w v [] i) [ inl e ↦ rw e (free_word g o net q free) | inr h ↦ elim h [ ] ];
+      rooted = λ w i unlinked nine. elim (first_or w v [] i) [ inl e ↦ (e, refl) | inr h ↦ elim h [ ] ];
     } in
     let own_all = taken g b'.room.grid net (v ∷ []) o l b'.room.owners.items b'.room.links.items eg small changed in
-    (sound_step b b' net v 1 (v ∷ []) m s t, record { moves = rw eg (moves_step b b' net v 1 (v ∷ []) m s t); taken = rw at at own_all })
+    (sound_step b b' net v 1 (v ∷ []) m s t, record { moves = rw eg (moves_step b b' net v 1 (v ∷ []) m s t); taken = rw at at own_all; reserved = rw (eg, er) refl })
 
 -- ---- connect
 -- a net whose tree has begun is a number below the one that says that there is none
@@ -303,14 +346,14 @@ unlogged b net q s hq fresh =
       ]
     ]
 
-forth_of : (b : Board) (net : ℕ) → IsSound b → (v : ℕ) → v < nodes b.room.grid → IsOwn b.room.owners.items b.room.links.items net v
+pub forth_of : (b : Board) (net : ℕ) → IsSound b → (v : ℕ) → v < nodes b.room.grid → IsOwn b.room.owners.items b.room.links.items net v
     → In (node_of b.room.grid v) (tree_nodes (routes_of (moves_of b) net))
 forth_of b net s v lt own = subst (λ (k : ℕ). In (node_of b.room.grid v) (tree_nodes (routes_of (moves_of b) k))) own.1 (s.forth v lt own.0)
 
 pub touched : (b b' : Board) (net c : ℕ) (q : Node) (t : Tree) → IsSound b → routes_of (moves_of b) net ≡ Some t → IsInGrid b.room.grid q
-    → slice_index b.log.marks.items (number b.room.grid q) ≡ 0 → IsIdle b'.frontier.order.items b'.frontier.marks.items (nodes b.room.grid) → Touches net (number b.room.grid q) c b b'
+    → slice_index b.log.marks.items (number b.room.grid q) ≡ 0 → IsIdle b'.frontier.order.items b'.frontier.marks.items (nodes b.room.grid) → b'.reserved ≡ b.reserved → Touches net (number b.room.grid q) c b b'
     → IsSound b' × Connects net q c (routing_of b) (routing_of b') (q ∷ [])
-touched b b' net c q tree s begun hq fresh idle h =
+touched b b' net c q tree s begun hq fresh idle er h =
     let g = b.room.grid in
     let o = b.room.owners.items in
     let l = b.room.links.items in
@@ -346,6 +389,9 @@ touched b b' net c q tree s begun hq fresh idle h =
       move = rw (mark, owner, at) refl;
       grows = rw at (joined_grows (routes_of (moves_of b)) net (q ∷ []) tree begun);
       begun = ((tree, begun), s.begun);
+      reserved = er;
+      free = λ w i. elim (first_or w v [] i) [ inl e ↦ rw e (inr h.own.1) | inr no_more ↦ elim no_more [ ] ];
+      rooted = λ w i unlinked nine. elim (first_or w v [] i) [ inl e ↦ absurd (h.own.0 (ap (λ u. slice_index l u) (sym e) ∙ unlinked)) | inr no_more ↦ elim no_more [ ] ];
     } in
     let own_all = taken g b'.room.grid net (v ∷ []) o l b'.room.owners.items b'.room.links.items eg small changed in
     let inside : In q (tree_nodes (routes_of (moves_of b) net)) = subst (λ (n : Node). In n (tree_nodes (routes_of (moves_of b) net))) at (forth_of b net s v below h.own) in (
@@ -355,6 +401,7 @@ touched b b' net c q tree s begun hq fresh idle h =
         costs = sym h.nothing;
         moves = rw eg (moves_step b b' net v 2 (v ∷ []) m s t);
         taken = rw at at own_all;
+        reserved = rw (eg, er) refl;
       },
     )
 
@@ -366,19 +413,53 @@ leads_within g o l net q (p ∷ rest) c lt (free, (k, k4, is, (b, more, e))) v i
 ]
 
 -- a path over free nodes is a way from the net's own nodes
-comes : (b : Board) (net : ℕ) (q : Node) (other : List Node) → IsSound b → IsInGrid b.room.grid q
-    → IsPath (owners.IsFree (table b.room.grid b.room.owners.items) net) (tree_nodes (routes_of (moves_of b) net)) q other
-    → Comes b.room.grid b.room.owners.items b.room.links.items net (number b.room.grid q) (0 + cost other)
-comes b net q [] s hq p = absurd p
-comes b net q (x ∷ rest) s hq p =
-    let lead = subst (λ (n : Node). field.LeadsBack (owners.IsFree (table b.room.grid b.room.owners.items) net) (tree_nodes (routes_of (moves_of b) net)) n rest) p.0 p.1 in
-    let r = leads_numbers b.room.grid b.room.owners.items b.room.links.items net (tree_nodes (routes_of (moves_of b) net)) (s.back net) (number b.room.grid q) q rest [] 0 hq (refl, refl) lead in
-    subst (λ (n : Node). Comes b.room.grid b.room.owners.items b.room.links.items net (number b.room.grid q) (0 + field.cost_from n rest)) (sym p.0) r
+pub comes : (b : Board) (f : List ℕ) (net : ℕ) (q : Node) (other : List Node) → IsSound b → IsKin f b.room.owners.items b.room.links.items net → IsInGrid b.room.grid q
+    → IsPath (owners.IsFree (table b.room.grid f) net) (tree_nodes (routes_of (moves_of b) net)) q other
+    → Comes b.room.grid f b.room.owners.items b.room.links.items net (number b.room.grid q) (0 + cost other)
+comes b f net q [] s kin hq p = absurd p
+comes b f net q (x ∷ rest) s kin hq p =
+    let lead = subst (λ (n : Node). field.LeadsBack (owners.IsFree (table b.room.grid f) net) (tree_nodes (routes_of (moves_of b) net)) n rest) p.0 p.1 in
+    let r = leads_numbers b.room.grid f b.room.owners.items b.room.links.items net (tree_nodes (routes_of (moves_of b) net)) kin (s.back net) (number b.room.grid q) q rest [] 0 hq (refl, refl) lead in
+    subst (λ (n : Node). Comes b.room.grid f b.room.owners.items b.room.links.items net (number b.room.grid q) (0 + field.cost_from n rest)) (sym p.0) r
+
+-- where no way leads, no path does
+pub no_path : (b : Board) (f : List ℕ) (net : ℕ) (q : Node) → IsSound b → IsKin f b.room.owners.items b.room.links.items net → IsInGrid b.room.grid q
+    → (IsOwn b.room.owners.items b.room.links.items net (number b.room.grid q) → ⊥) → NoWay b f net (number b.room.grid q) → (path : List Node)
+    → IsPath (owners.IsFree (table b.room.grid f) net) (tree_nodes (routes_of (moves_of b) net)) q path → ⊥
+no_path b f net q s kin hq outside none [] p = p
+no_path b f net q s kin hq outside none (x ∷ []) p = outside (s.back net q (subst (λ (n : Node). In n (tree_nodes (routes_of (moves_of b) net))) p.0 p.1)).1
+no_path b f net q s kin hq outside none (x ∷ y ∷ rest) p =
+    let free = free_word b.room.grid f net q (subst (λ (n : Node). owners.IsFree (table b.room.grid f) net n) p.0 p.1.0) in
+    let r = comes b f net q (x ∷ y ∷ rest) s kin hq p in
+    none free r.from r.back (0 + cost (x ∷ y ∷ rest)) r.own r.leads
+
+own_kin : (o l : List ℕ) (net : ℕ) → IsKin o o l net
+own_kin o l net v own = inr own.1
+
+-- a claimed path is over nodes that were free, and no link of it says that a tree begins there
+leads_free : (g : Grid) (o l : List ℕ) (net q : ℕ) (rest : List ℕ) (c : ℕ) → LeadsBack g o l net q rest c → (v : ℕ) → In v (q ∷ rest) → IsFree o net v
+leads_free g o l net q [] c h v i = elim (first_or v q [] i) [ inl e ↦ rw e (inr h.0.1) | inr more ↦ elim more [ ] ]
+leads_free g o l net q (p ∷ rest) c (free, (k, k4, is, (b, more, e))) v i = elim (first_or v q (p ∷ rest) i) [
+  | inl e' ↦ rw e' free
+  | inr j ↦ leads_free g o l net p rest b more v j
+]
+
+told_joins : (g : Grid) (o l l' : List ℕ) (net q : ℕ) (rest : List ℕ) (c : ℕ) → Told g l' q rest → LeadsBack g o l net q rest c → (v : ℕ) → In v (q ∷ rest)
+    → slice_index l v ≡ 0 → slice_index l' v ≢ 9
+told_joins g o l l' net q [] c t h v i z = absurd t
+told_joins g o l l' net q (p ∷ []) c (k, k4, link, is) (free, (way, way4, is', (b, more, e))) v i z = elim (first_or v q (p ∷ []) i) [
+  | inl e' ↦ (let same = ap (λ w. slice_index l' w) e' in omega arith)
+  | inr j ↦ elim (first_or v p [] j) [ inl e' ↦ absurd (more.0.0 (ap (λ w. slice_index l w) (sym e') ∙ z)) | inr none ↦ elim none [ ] ]
+]
+told_joins g o l l' net q (p ∷ r ∷ rest) c (k, k4, link, is, told) (free, (way, way4, is', (b, more, e))) v i z = elim (first_or v q (p ∷ r ∷ rest) i) [
+  | inl e' ↦ (let same = ap (λ w. slice_index l' w) e' in omega arith)
+  | inr j ↦ told_joins g o l l' net p (r ∷ rest) b told more v j z
+]
 
 pub reached : (b b' : Board) (net c : ℕ) (q : Node) (t : Tree) → IsSound b → routes_of (moves_of b) net ≡ Some t → IsInGrid b.room.grid q
-    → slice_index b.log.marks.items (number b.room.grid q) ≡ 0 → IsIdle b'.frontier.order.items b'.frontier.marks.items (nodes b.room.grid) → Reaches net (number b.room.grid q) c b b'
+    → slice_index b.log.marks.items (number b.room.grid q) ≡ 0 → IsIdle b'.frontier.order.items b'.frontier.marks.items (nodes b.room.grid) → b'.reserved ≡ b.reserved → Reaches net (number b.room.grid q) c b b'
     → IsSound b' × ((path : List Node) × Connects net q c (routing_of b) (routing_of b') path)
-reached b b' net c q tree s begun hq fresh idle h =
+reached b b' net c q tree s begun hq fresh idle er h =
     let g = b.room.grid in
     let o = b.room.owners.items in
     let l = b.room.links.items in
@@ -410,6 +491,9 @@ reached b b' net c q tree s begun hq fresh idle h =
       move = rw (mark, test_other (slice_index b'.room.links.items v) 9 low, owner, follows) refl;
       grows = joined_grows (routes_of (moves_of b)) net path tree begun;
       begun = ((tree, begun), s.begun);
+      reserved = er;
+      free = leads_free g o l net v rest c claimed.leads;
+      rooted = λ w i unlinked nine. absurd (told_joins g o l b'.room.links.items net v rest c claimed.told claimed.leads w i unlinked nine);
     } in
     let own_all = taken g b'.room.grid net (v ∷ rest) o l b'.room.owners.items b'.room.links.items claimed.grid small claimed.changed in
     let lead = leads_nodes g o l net (tree_nodes (routes_of (moves_of b) net)) (forth_of b net s) v rest c below claimed.leads in (
@@ -420,7 +504,7 @@ reached b b' net c q tree s begun hq fresh idle h =
           least = record {
             leads = (at, lead.0);
             least = λ other p.
-                let r = comes b net q other s hq p in
+                let r = comes b o net q other s (own_kin o l net) hq p in
                 let low' = h.least r.from r.own r.back (0 + cost other) r.leads in
                 let paid = lead.1 in
                 rw paid (omega arith);
@@ -428,6 +512,7 @@ reached b b' net c q tree s begun hq fresh idle h =
           costs = lead.1;
           moves = rw claimed.grid (moves_step b b' net v 1 (v ∷ rest) m s t);
           taken = own_all;
+          reserved = rw (claimed.grid, er) refl;
         },
       ),
     )
@@ -439,32 +524,30 @@ reached b b' net c q tree s begun hq fresh idle h =
 
 pub stuck : (b b' : Board) (net : ℕ) (q : Node) → IsSound b → IsInGrid b.room.grid q → IsStuck net (number b.room.grid q) b b' → (path : List Node)
     → IsPath (owners.IsFree (table b.room.grid b.room.owners.items) net) (tree_nodes (routes_of (moves_of b) net)) q path → ⊥
-stuck b b' net q s hq h [] p = p
-stuck b b' net q s hq h (x ∷ []) p = h.outside (s.back net q (subst (λ (n : Node). In n (tree_nodes (routes_of (moves_of b) net))) p.0 p.1)).1
-stuck b b' net q s hq h (x ∷ y ∷ rest) p =
-    let free = free_word b.room.grid b.room.owners.items net q (subst (λ (n : Node). owners.IsFree (table b.room.grid b.room.owners.items) net n) p.0 p.1.0) in
-    let r = comes b net q (x ∷ y ∷ rest) s hq p in
-    h.none free r.from r.back (0 + cost (x ∷ y ∷ rest)) r.own r.leads
+stuck b b' net q s hq h = no_path b b.room.owners.items net q s (own_kin b.room.owners.items b.room.links.items net) hq h.outside h.none
 
 -- nothing changed
-pub sound_same : (b b' : Board) (net target : ℕ) → IsSound b → IsIdle b'.frontier.order.items b'.frontier.marks.items (nodes b.room.grid) → IsStuck net target b b' → IsSound b' × (routing_of b' ≡ routing_of b)
-sound_same b b' net target s idle h =
-    let er = h.room in
-    let el = h.log in (
-      record {
-        room = rw er s.room;
-        idle = rw er idle;
-        log = rw el s.log;
-        logged = rw (er, el) s.logged;
-        linked = rw (er, el) s.linked;
-        owned = rw er s.owned;
-        told = rw (er, el) s.told;
-        forth = rw (er, el) s.forth;
-        back = rw (er, el) s.back;
-        begun = rw (er, el) s.begun;
-      },
-      rw (er, el) refl,
-    )
+pub sound_same : (b b' : Board) → IsSound b → IsIdle b'.frontier.order.items b'.frontier.marks.items (nodes b.room.grid) → b'.reserved ≡ b.reserved → b'.room ≡ b.room
+    → b'.log ≡ b.log → IsSound b' × (routing_of b' ≡ routing_of b)
+sound_same b b' s idle ef er el = (
+  record {
+    room = rw er s.room;
+    idle = rw er idle;
+    log = rw el s.log;
+    logged = rw (er, el) s.logged;
+    linked = rw (er, el) s.linked;
+    owned = rw er s.owned;
+    told = rw (er, el) s.told;
+    forth = rw (er, el) s.forth;
+    back = rw (er, el) s.back;
+    begun = rw (er, el) s.begun;
+    sized = rw (ef, er) s.sized;
+    fixed = rw (ef, er) s.fixed;
+    untaken = rw (ef, er) s.untaken;
+    rooted = rw (er, el) s.rooted;
+  },
+  rw (er, el, ef) refl,
+)
 
 -- ---- the log before a call
 pub unmarked_own : (b : Board) (net v : ℕ) → (slice_index b.log.marks.items v ≡ 0) ⊎ (slice_index b.room.owners.items v ≢ net) → slice_index b.room.owners.items v ≡ net
@@ -479,18 +562,18 @@ unmarked_free b net v s free outside = elim (cases_eq (slice_index b.room.links.
   | inr nz ↦ elim free [ inl nobody ↦ absurd (s.owned v nz nobody) | inr mine ↦ absurd (outside (nz, mine)) ]
 ]
 
-some_tree : (o : Option Tree) → o ≢ None → (t : Tree) × (o ≡ Some t)
+pub some_tree : (o : Option Tree) → o ≢ None → (t : Tree) × (o ≡ Some t)
 some_tree None ne = absurd (ne refl)
 some_tree (Some t) ne = (t, refl)
 
 pub connected : (b b' : Board) (net c : ℕ) (q : Node) → IsSound b → routes_of (moves_of b) net ≢ None → IsInGrid b.room.grid q
-    → (IsPoint (routes_of (moves_of b) net) q → ⊥) → IsIdle b'.frontier.order.items b'.frontier.marks.items (nodes b.room.grid)
+    → (IsPoint (routes_of (moves_of b) net) q → ⊥) → IsIdle b'.frontier.order.items b'.frontier.marks.items (nodes b.room.grid) → b'.reserved ≡ b.reserved
     → Touches net (number b.room.grid q) c b b' ⊎ Reaches net (number b.room.grid q) c b b'
     → IsSound b' × ((path : List Node) × Connects net q c (routing_of b) (routing_of b') path)
-connected b b' net c q s begun hq new idle (inl h) =
+connected b b' net c q s begun hq new idle er (inl h) =
     let (t, is) = some_tree (routes_of (moves_of b) net) begun in
     let z = unmarked_own b net (number b.room.grid q) (unlogged b net q s hq new) h.own.1 in
-    let r = touched b b' net c q t s is hq z idle h in (r.0, (q ∷ [], r.1))
-connected b b' net c q s begun hq new idle (inr h) =
+    let r = touched b b' net c q t s is hq z idle er h in (r.0, (q ∷ [], r.1))
+connected b b' net c q s begun hq new idle er (inr h) =
     let (t, is) = some_tree (routes_of (moves_of b) net) begun in
-    reached b b' net c q t s is hq (unmarked_free b net (number b.room.grid q) s h.free h.outside) idle h
+    reached b b' net c q t s is hq (unmarked_free b net (number b.room.grid q) s h.free h.outside) idle er h

@@ -210,6 +210,14 @@ Kept-more ord m n to way kept lt z =
             let ni : i ≢ n = omega arith in
             (i, omega arith, get_or-set_other ord n i to 0 ni ∙ at_i))
       ];
+      apart = λ i j lt_ij below.
+          let i_n : i < n = omega arith in
+          let ni : i ≢ n = omega arith in
+          let old_i = get_or-set_other ord n i to 0 ni in
+          elim (cases_eq j n) [
+            | inl e ↦ (λ same. kept.marked i i_n (ap (λ x. slice_index m x) (sym old_i ∙ (same ∙ (ap (λ k. get_or (set ord n to) k 0) e ∙ same_n))) ∙ z))
+            | inr ne ↦ (let j_n : j < n = omega arith in λ same. kept.apart i j lt_ij j_n (sym old_i ∙ (same ∙ get_or-set_other ord n j to 0 ne)))
+          ];
     }
 
 pub Grown-one : (g : Grid) (o : List ℕ) (t at way : ℕ) (ord m : List ℕ) (n to : ℕ) → Kept ord m n
@@ -277,6 +285,7 @@ Kept-again ord m n to x kept lt ne =
         | inl e ↦ (let f = kept.found to ne in (f.0, f.1, f.2 ∙ sym e))
         | inr other ↦ kept.found v (rw (get_or-set_other m to v (x + 1) 0 other) at some)
       ];
+      apart = kept.apart;
     }
 
 pub Grown-again : (g : Grid) (o : List ℕ) (t at way : ℕ) (ord m : List ℕ) (n to : ℕ)
@@ -374,6 +383,7 @@ Kept-none ord m same h =
       listed = λ i lt. omega arith;
       marked = λ i lt. (let no : ⊥ = omega arith in absurd no);
       found = λ v ne. absurd (ne (h v));
+      apart = λ i j lt_ij lt. (let no : ⊥ = omega arith in absurd no);
     }
 
 -- what an index reads

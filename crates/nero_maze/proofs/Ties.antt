@@ -55,7 +55,7 @@ free_word g o net p h =
     ]
 
 -- ---- paths
-turned : (p q : Node) → IsNext p q → IsNext q p
+pub turned : (p q : Node) → IsNext p q → IsNext q p
 turned p q (field.forth e) = field.back e
 turned p q (field.back e) = field.forth e
 turned p q (field.up e) = field.down e
@@ -79,35 +79,39 @@ leads_nodes g o l net tree forth q (p ∷ rest) c lt (free, (k, k4, is, (b, more
     let cheap = r.1 in
     ((free_node g o net q lt free, turned (node_of g q) (node_of g p) m.next, r.0), rw (cheap, paid) (sym e))
 
+-- the net's own nodes are free by these words too
+abbrev pub IsKin : List ℕ → List ℕ → List ℕ → ℕ → Type 0
+IsKin f o l net = (v : ℕ) → IsOwn o l net v → IsFree f net v
+
 -- where a path begins it is free
-head_free : (g : Grid) (o l : List ℕ) (net : ℕ) (tree : List Node) → IsBack g o l net tree → (p : Node) (rest : List Node)
-    → field.LeadsBack (owners.IsFree (table g o) net) tree p rest → IsInGrid g p × IsFree o net (number g p)
-head_free g o l net tree ok p [] h = let b = ok p h in (b.0, inr b.1.1)
-head_free g o l net tree ok p (r ∷ rest) h = (h.0.within, free_word g o net p h.0)
+head_free : (g : Grid) (f o l : List ℕ) (net : ℕ) (tree : List Node) → IsKin f o l net → IsBack g o l net tree → (p : Node) (rest : List Node)
+    → field.LeadsBack (owners.IsFree (table g f) net) tree p rest → IsInGrid g p × IsFree f net (number g p)
+head_free g f o l net tree kin ok p [] h = let b = ok p h in (b.0, kin (number g p) b.1)
+head_free g f o l net tree kin ok p (r ∷ rest) h = (h.0.within, free_word g f net p h.0)
 
 -- a way to a target, and one of a net's nodes from which it leads
-pub record Comes (g : Grid) (o l : List ℕ) (net target c : ℕ) : Type 0 where
+pub record Comes (g : Grid) (f o l : List ℕ) (net target c : ℕ) : Type 0 where
   pub from : ℕ
   pub back : List ℕ
   pub own : IsOwn o l net from
-  pub leads : LeadsTo g o net target from back c
+  pub leads : LeadsTo g f net target from back c
 
-pub leads_numbers : (g : Grid) (o l : List ℕ) (net : ℕ) (tree : List Node) → IsBack g o l net tree → (target : ℕ) (q : Node) (rest : List Node) (after : List ℕ) (b : ℕ)
-    → IsInGrid g q → LeadsTo g o net target (number g q) after b → field.LeadsBack (owners.IsFree (table g o) net) tree q rest
-    → Comes g o l net target (b + cost_from q rest)
-leads_numbers g o l net tree ok target q [] after b hq lead h =
+pub leads_numbers : (g : Grid) (f o l : List ℕ) (net : ℕ) (tree : List Node) → IsKin f o l net → IsBack g o l net tree → (target : ℕ) (q : Node) (rest : List Node)
+    (after : List ℕ) (b : ℕ) → IsInGrid g q → LeadsTo g f net target (number g q) after b → field.LeadsBack (owners.IsFree (table g f) net) tree q rest
+    → Comes g f o l net target (b + cost_from q rest)
+leads_numbers g f o l net tree kin ok target q [] after b hq lead h =
     let same : b ≡ b + 0 = omega arith in
-    record { from = number g q; back = after; own = (ok q h).1; leads = subst (λ (n : ℕ). LeadsTo g o net target (number g q) after n) same lead }
-leads_numbers g o l net tree ok target q (p ∷ rest) after b hq lead (free, nxt, more) =
-    let hp = head_free g o l net tree ok p rest more in
+    record { from = number g q; back = after; own = (ok q h).1; leads = subst (λ (n : ℕ). LeadsTo g f net target (number g q) after n) same lead }
+leads_numbers g f o l net tree kin ok target q (p ∷ rest) after b hq lead (free, nxt, more) =
+    let hp = head_free g f o l net tree kin ok p rest more in
     let w = way_of g q p hq hp.0 (turned p q nxt) in
-    let r = leads_numbers g o l net tree ok target p rest (number g q ∷ after) (b + weight w.way) hp.0 (hp.1, (w.way, w.few, w.leads, (b, lead, refl))) more in
+    let r = leads_numbers g f o l net tree kin ok target p rest (number g q ∷ after) (b + weight w.way) hp.0 (hp.1, (w.way, w.few, w.leads, (b, lead, refl))) more in
     let paid = w.cost in
     let same : b + weight w.way + cost_from p rest ≡ b + (cost_from p rest + move_cost p q) = rw paid (omega arith) in
-    record { from = r.from; back = r.back; own = r.own; leads = subst (λ (n : ℕ). LeadsTo g o net target r.from r.back n) same r.leads }
+    record { from = r.from; back = r.back; own = r.own; leads = subst (λ (n : ℕ). LeadsTo g f net target r.from r.back n) same r.leads }
 
 -- ---- where the tree is left
-free_first : (g : Grid) (o : List ℕ) (net target v : ℕ) (after : List ℕ) (b : ℕ) → IsFree o net target → LeadsTo g o net target v after b → IsFree o net v
+pub free_first : (g : Grid) (o : List ℕ) (net target v : ℕ) (after : List ℕ) (b : ℕ) → IsFree o net target → LeadsTo g o net target v after b → IsFree o net v
 free_first g o net target v [] b free h = subst (λ (n : ℕ). IsFree o net n) (sym h.0) free
 free_first g o net target v (u ∷ back) b free h = h.0
 

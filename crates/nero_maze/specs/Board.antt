@@ -42,7 +42,11 @@ abbrev pub moves_of : Board → List Move
 moves_of b = moves_in b.room.grid b.room.owners.items b.room.links.items b.log.marks.items b.log.order.items b.log.count
 
 abbrev pub routing_of : Board → Routing
-routing_of b = record { occupied = record { grid = b.room.grid; words = b.room.owners.items }; moves = moves_of b }
+routing_of b = record {
+  occupied = record { grid = b.room.grid; words = b.room.owners.items };
+  moves = moves_of b;
+  reserved = record { grid = b.room.grid; words = b.reserved.items };
+}
 
 -- a tree begins where there is none, and paths join one that has begun
 abbrev pub AreBegun : List Move → Type 0
@@ -65,6 +69,10 @@ pub record IsSound (b : Board) : Type 0 where
   pub back : (k : ℕ) (q : Node) → In q (tree_nodes (routes_of (moves_of b) k))
       → IsInGrid b.room.grid q × IsOwn b.room.owners.items b.room.links.items k (number b.room.grid q)
   pub begun : AreBegun (moves_of b)
+  pub sized : length b.reserved.items ≡ nodes b.room.grid
+  pub fixed : (v : ℕ) → slice_index b.reserved.items v ≢ 4294967295 → slice_index b.room.owners.items v ≡ slice_index b.reserved.items v
+  pub untaken : (v : ℕ) → slice_index b.room.links.items v ≡ 0 → slice_index b.room.owners.items v ≡ slice_index b.reserved.items v
+  pub rooted : (v : ℕ) → slice_index b.room.links.items v ≡ 9 → slice_index b.log.marks.items v ≡ 1
 
 -- the log got one node more
 pub record Logs (v mark : ℕ) (old new : Marked) : Type 0 where

@@ -3,3 +3,4 @@ pub mod Search
 pub mod Claims
 pub mod Routing
 pub mod Board
+pub mod Ripping

@@ -2,6 +2,7 @@
 use Rattle.std.specs.Prelude.{ℕ, zero, suc, ◌≡◌, ◌≢◌, ◌+◌, ◌<◌, ◌≤◌, ◌⊎◌, List, [], ◌∷◌, length, Some, slice_index}
 use Rattle.grid_core.specs.declared.grid.Grid.{Grid}
 use Rattle.grid_core.specs.Numbers.{nodes}
+use Rattle.nero_maze.specs.declared.frontier.Field.{Field}
 use Rattle.nero_maze.specs.declared.frontier.Room.{Room}
 use Rattle.nero_maze.specs.Ways.{weight, opposite, next}
 
@@ -41,6 +42,7 @@ pub record Kept (order marks : List ℕ) (n : ℕ) : Type 0 where
   pub listed : (i : ℕ) → i < n → slice_index order i < length marks
   pub marked : (i : ℕ) → i < n → slice_index marks (slice_index order i) ≢ 0
   pub found : (v : ℕ) → slice_index marks v ≢ 0 → (i : ℕ) × (i < n) × (slice_index order i ≡ v)
+  pub apart : (i j : ℕ) → i < j → j < n → slice_index order i ≢ slice_index order j
 
 -- Entry `i` was reached at this level, from an entry of from..to, on a way of low..high: its mark is nine more than the way.
 abbrev pub Reached : Grid → List ℕ → ℕ → List ℕ → List ℕ → ℕ → ℕ → ℕ → ℕ → ℕ → Type 0
@@ -77,6 +79,11 @@ pub record IsRoom (r : Room) : Type 0 where
   pub few : nodes r.grid < 4294967295
   pub owners : length r.owners.items ≡ nodes r.grid
   pub links : length r.links.items ≡ nodes r.grid
+
+-- there are few nodes, and a word for each
+pub record IsField (f : Field) : Type 0 where
+  pub few : nodes f.grid < 4294967295
+  pub words : length f.words.now.items ≡ nodes f.grid
 
 -- the node is in the net's own tree
 abbrev pub IsOwn : List ℕ → List ℕ → ℕ → ℕ → Type 0

@@ -1,12 +1,15 @@
 // The arrays of a router.
 ghost use Rattle.std.specs.Prelude.{◌≡◌, ◌≢◌, ◌<◌, ◌⊎◌, IfNone, IfSome, slice_index, slice_set};
 ghost use Rattle.grid_core.specs.Numbers.{nodes};
-ghost use Rattle.nero_maze.specs.Search.{IsIdle};
+ghost use Rattle.nero_maze.specs.Search.{IsIdle, IsOwn};
 ghost use Rattle.nero_maze.specs.Board.{IsSound, Logs, Touches, Reaches, IsStuck};
+ghost use Rattle.nero_maze.specs.Ripping.{IsTorn, NoWay, IsBlocked};
 
 use crate::claim::claim;
 use crate::frontier::{Frontier, Marked, Room, clear, push};
 use crate::search::search;
+use crate::tear::{drop_moves, free_paths};
+use crate::trace::{first_taken, is_free};
 use grid_core::NOBODY;
 
 /// The link of a node at which a tree began.
@@ -16,10 +19,11 @@ const REACHED: u8 = 1;
 /// The mark of one that was in the net's tree already.
 pub(crate) const TOUCHED: u8 = 2;
 
-/// All arrays: 15 bytes a node, and three for each penalty.
+/// All arrays: 19 bytes a node, and three for each penalty. `reserved` has the owners of nodes before any tree began.
 #[derive(Drop)]
 pub(crate) struct Board {
     pub(crate) room: Room,
+    pub(crate) reserved: Vec<u32>,
     pub(crate) frontier: Frontier,
     pub(crate) log: Marked,
 }
@@ -34,6 +38,7 @@ pub(crate) fn root(board: &mut Board, net: u32, node: u32)
     ensures links { board.new.room.links.items ≡ slice_set board.old.room.links.items node 9 }
     ensures log { Logs node 1 board.old.log board.new.log }
     ensures frontier { board.new.frontier ≡ board.old.frontier }
+    ensures reserved { board.new.reserved ≡ board.old.reserved }
 {
     board.room.owners[node as usize] = net;
     board.room.links[node as usize] = ROOT;
@@ -48,6 +53,7 @@ pub(crate) fn join(board: &mut Board, net: u32, target: u32) -> Option<u64>
     ensures idle { IsIdle board.new.frontier.order.items board.new.frontier.marks.items (nodes board.old.room.grid) }
     ensures joins { IfSome result (λ c. Touches net target c board.old board.new ⊎ Reaches net target c board.old board.new) }
     ensures stuck { IfNone result (IsStuck net target board.old board.new) }
+    ensures reserved { board.new.reserved ≡ board.old.reserved }
 {
     let at = target as usize;
     let owner = board.room.owners[at];
@@ -58,7 +64,9 @@ pub(crate) fn join(board: &mut Board, net: u32, target: u32) -> Option<u64>
     if owner != NOBODY && owner != net {
         return None;
     }
-    let Some(meeting) = search(&board.room, net, target, &mut board.frontier) else {
+    let room = &board.room;
+    let found = search(room, &room.owners, net, target, &mut board.frontier);
+    let Some(meeting) = found else {
         clear(&mut board.frontier);
         return None;
     };
@@ -66,4 +74,58 @@ pub(crate) fn join(board: &mut Board, net: u32, target: u32) -> Option<u64>
     clear(&mut board.frontier);
     push(&mut board.log, target, REACHED);
     Some(meeting.cost)
+}
+
+/// Later searches keep off the nodes of the net's tree, where other ways cost no more.
+pub(crate) fn keep_off(board: &mut Board, net: u32)
+    requires sound { IsSound board.old }
+    ensures idle { IsIdle board.new.frontier.order.items board.new.frontier.marks.items (nodes board.old.room.grid) }
+    ensures room { board.new.room ≡ board.old.room }
+    ensures log { board.new.log ≡ board.old.log }
+    ensures reserved { board.new.reserved ≡ board.old.reserved }
+{
+    let room = &board.room;
+    board.frontier.ties.add_tree(&room.owners, &room.links, net);
+}
+
+/// Takes the paths of a net out: its tree is the node at which it began, and their other nodes are whose they were before.
+pub(crate) fn tear(board: &mut Board, net: u32)
+    requires sound { IsSound board.old }
+    ensures { IsTorn net board.old board.new }
+{
+    drop_moves(&board.room, &mut board.log, net);
+    free_paths(&mut board.room, &board.reserved, net);
+}
+
+/// The net whose tree has the first node that isn't free on a least path from the net's tree to the target over nodes that are reserved
+/// for no other net; none where there is no such path.
+pub(crate) fn block(board: &mut Board, net: u32, target: u32) -> Option<u32>
+    requires sound { IsSound board.old }
+    requires target { target < nodes board.old.room.grid }
+    requires outside { IsOwn board.old.room.owners.items board.old.room.links.items net target → ⊥ }
+    requires stuck { NoWay board.old board.old.room.owners.items net target }
+    ensures idle { IsIdle board.new.frontier.order.items board.new.frontier.marks.items (nodes board.old.room.grid) }
+    ensures room { board.new.room ≡ board.old.room }
+    ensures log { board.new.log ≡ board.old.log }
+    ensures reserved { board.new.reserved ≡ board.old.reserved }
+    ensures blocks { IfSome result (λ b. IsBlocked board.old net target b) }
+    ensures none { IfNone result (NoWay board.old board.old.reserved.items net target) }
+{
+    let word = board.reserved[target as usize];
+    if !is_free(word, net) {
+        return None;
+    }
+    let Some(meeting) = search(
+        &board.room,
+        &board.reserved,
+        net,
+        target,
+        &mut board.frontier,
+    ) else {
+        clear(&mut board.frontier);
+        return None;
+    };
+    let owner = first_taken(board, net, target, meeting);
+    clear(&mut board.frontier);
+    Some(owner)
 }

@@ -13,7 +13,7 @@ use crate::way::{opposite_of, step};
 const JOINING: u8 = 4;
 
 /// What one step on a way costs.
-fn weight_of(way: u8) -> u64
+pub(crate) fn weight_of(way: u8) -> u64
     requires { way < 4 }
     ensures { result ≡ weight way }
 {

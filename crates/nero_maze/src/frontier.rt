@@ -1,7 +1,7 @@
 // The nodes that a search has reached.
 ghost use Rattle.std.specs.Prelude.{◌≡◌, ◌≢◌, ℕ, ◌+◌, ◌%◌, ◌<◌, ◌≤◌, ◌⊎◌, IfNone, IfOk, IfSome, length, slice_index, slice_set};
 ghost use Rattle.grid_core.specs.Numbers.{nodes};
-ghost use Rattle.nero_maze.specs.Search.{IsRoom, IsOwn, IsIdle, Kept, Grown, IsSpread};
+ghost use Rattle.nero_maze.specs.Search.{IsRoom, IsField, IsOwn, IsIdle, Kept, Grown, IsSpread};
 
 use crate::penalties::Ties;
 use crate::way::step;
@@ -19,6 +19,14 @@ pub(crate) struct Room {
     pub(crate) grid: Grid,
     pub(crate) owners: Vec<u32>,
     pub(crate) links: Vec<u8>,
+}
+
+/// Where a net may go: over the nodes of the grid whose word is the net's own or `NOBODY`.
+#[derive(Clone, Copy)]
+pub(crate) struct Field<'w> {
+    pub(crate) grid: Grid,
+    pub(crate) words: &'w Vec<u32>,
+    pub(crate) net: u32,
 }
 
 /// Nodes that got a mark, in the order in which they did, and for each node of the grid its mark or 0.
@@ -100,24 +108,25 @@ fn prefer(frontier: &mut Frontier, node: u32, mark: u8, sum: u16)
 }
 
 /// Marks the neighbour of entry `at` on a way, where it is free and has no mark, or one of this level and a greater sum of penalties.
-fn visit(room: &Room, net: u32, frontier: &mut Frontier, at: usize, way: u8)
-    requires room { IsRoom room.now }
-    requires size { length frontier.old.marks.items ≡ nodes room.now.grid }
+fn visit(field: &Field, frontier: &mut Frontier, at: usize, way: u8)
+    requires field { IsField field.now }
+    requires size { length frontier.old.marks.items ≡ nodes field.now.grid }
     requires kept { Kept frontier.old.order.items frontier.old.marks.items frontier.old.count }
     requires at { at < frontier.old.count }
     requires way { way < 4 }
-    ensures size { length frontier.new.marks.items ≡ nodes room.now.grid }
+    ensures size { length frontier.new.marks.items ≡ nodes field.now.grid }
     ensures kept { Kept frontier.new.order.items frontier.new.marks.items frontier.new.count }
-    ensures grown { Grown room.now.grid room.now.owners.items net at (at + 1) way (way + 1)
+    ensures grown { Grown field.now.grid field.now.words.now.items field.now.net at (at + 1) way (way + 1)
         frontier.old.order.items frontier.old.marks.items frontier.old.count
         frontier.new.order.items frontier.new.marks.items frontier.new.count }
-    ensures spread { IsSpread room.now.grid room.now.owners.items net frontier.old.order.items frontier.new.marks.items at way }
+    ensures spread { IsSpread field.now.grid field.now.words.now.items field.now.net frontier.old.order.items frontier.new.marks.items at way }
 {
     let from = frontier.order[at];
-    let Some(to) = step(&room.grid, from, way) else {
+    let Some(to) = step(&field.grid, from, way) else {
         return;
     };
-    let owner = room.owners[to as usize];
+    let net = field.net;
+    let owner = field.words[to as usize];
     if owner != NOBODY && owner != net {
         return;
     }
@@ -137,24 +146,24 @@ fn visit(room: &Room, net: u32, frontier: &mut Frontier, at: usize, way: u8)
 }
 
 /// Marks the free neighbours of some entries on two ways.
-pub(crate) fn expand(room: &Room, net: u32, frontier: &mut Frontier, span: Span, way: u8)
-    requires room { IsRoom room.now }
-    requires size { length frontier.old.marks.items ≡ nodes room.now.grid }
+pub(crate) fn expand(field: &Field, frontier: &mut Frontier, span: Span, way: u8)
+    requires field { IsField field.now }
+    requires size { length frontier.old.marks.items ≡ nodes field.now.grid }
     requires kept { Kept frontier.old.order.items frontier.old.marks.items frontier.old.count }
     requires range { span.from ≤ span.to }
     requires to { span.to ≤ frontier.old.count }
     requires way { way < 3 }
-    ensures size { length frontier.new.marks.items ≡ nodes room.now.grid }
+    ensures size { length frontier.new.marks.items ≡ nodes field.now.grid }
     ensures kept { Kept frontier.new.order.items frontier.new.marks.items frontier.new.count }
-    ensures grown { Grown room.now.grid room.now.owners.items net span.from span.to way (way + 2)
+    ensures grown { Grown field.now.grid field.now.words.now.items field.now.net span.from span.to way (way + 2)
         frontier.old.order.items frontier.old.marks.items frontier.old.count
         frontier.new.order.items frontier.new.marks.items frontier.new.count }
     ensures spread { (j k : ℕ) → span.from ≤ j → j < span.to → way ≤ k → k < way + 2
-        → IsSpread room.now.grid room.now.owners.items net frontier.old.order.items frontier.new.marks.items j k }
+        → IsSpread field.now.grid field.now.words.now.items field.now.net frontier.old.order.items frontier.new.marks.items j k }
 {
     for at in span.from..span.to {
-        visit(room, net, frontier, at, way);
-        visit(room, net, frontier, at, way + 1);
+        visit(field, frontier, at, way);
+        visit(field, frontier, at, way + 1);
     }
 }
 

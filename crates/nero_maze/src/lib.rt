@@ -8,6 +8,8 @@ mod history;
 mod penalties;
 mod router;
 mod search;
+mod tear;
+mod trace;
 mod way;
 
 pub use router::{NoPath, Router};

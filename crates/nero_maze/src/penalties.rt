@@ -3,6 +3,9 @@ ghost use Rattle.std.specs.Prelude.{◌≡◌};
 
 use std::alloc::{AllocError, Global};
 
+/// What a node's penalty grows by when a tree is to be kept off.
+const TREE_PENALTY: u8 = 8;
+
 /// A penalty for each node, and the sums of penalties on the ways by which a search has reached nodes. They decide between ways of one
 /// cost, and nothing else.
 #[derive(Drop)]
@@ -41,5 +44,22 @@ impl Ties {
         if at < self.sums.len() {
             self.sums[at] = sum;
         }
+    }
+
+    /// The nodes of the net's tree get greater penalties, up to 255, where nodes have penalties at all.
+    pub(crate) fn add_tree(&mut self, owners: &[u32], links: &[u8], net: u32) {
+        for at in 0..self.penalties.len() {
+            if is_in_tree(owners, links, net, at) {
+                self.penalties[at] = self.penalties[at].saturating_add(TREE_PENALTY);
+            }
+        }
+    }
+}
+
+/// Whether a node is in the net's tree.
+fn is_in_tree(owners: &[u32], links: &[u8], net: u32, at: usize) -> bool {
+    match (owners.get(at), links.get(at)) {
+        (Some(owner), Some(link)) => *owner == net && *link != 0,
+        _ => false,
     }
 }

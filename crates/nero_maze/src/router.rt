@@ -1,12 +1,12 @@
 // The router.
-ghost use Rattle.std.specs.Prelude.{◌≡◌, ◌≢◌, ◌<◌, ◌∷◌, [], List, None, IfOk, IfErr};
+ghost use Rattle.std.specs.Prelude.{◌≡◌, ◌≢◌, ◌<◌, ◌∷◌, [], List, None, IfOk, IfErr, IfNone, IfSome};
 ghost use Rattle.grid_core.specs.declared.grid.Node.{Node as AnyNode};
 ghost use Rattle.grid_core.specs.Grid.{IsInGrid, IsPath};
 ghost use Rattle.grid_core.specs.Owners.{IsFree};
 ghost use Rattle.grid_core.specs.Routes.{tree_nodes};
-ghost use Rattle.nero_maze.specs.Routing.{tree_of, IsPoint, IsBare, Begins, Connects, NoneFrom, AreTrees};
+ghost use Rattle.nero_maze.specs.Routing.{tree_of, IsPoint, IsBare, Begins, Connects, TakesOut, Blocks, NoneFrom, AreTrees};
 
-use crate::board::{Board, join, root};
+use crate::board::{Board, block, join, keep_off, root, tear};
 use crate::frontier::{Frontier, Room, unmarked, zeros};
 use crate::history::trees_of;
 use crate::penalties::Ties;
@@ -37,7 +37,7 @@ impl Model for Router {
 }
 
 impl Router {
-    /// No net has a tree. Takes eleven bytes a node beside the table of owners, and all that later calls need.
+    /// No net has a tree. Takes fifteen bytes a node beside the table of owners, and all that later calls need.
     pub fn begin(alloc: Global, occupied: Occupied) -> Result<Self, AllocError>
         ensures { IfOk result (λ r. IsBare occupied r) }
     {
@@ -55,6 +55,7 @@ impl Router {
     {
         let grid = occupied.grid();
         let owners = occupied.into_words();
+        let reserved = Vec::from_slice(alloc, &owners)?;
         let count = owners.len();
         let links = zeros(alloc, count)?;
         let reached = unmarked(alloc, count)?;
@@ -68,6 +69,7 @@ impl Router {
         Ok(Router {
             board: Board {
                 room,
+                reserved,
                 frontier: Frontier {
                     order: reached.order,
                     marks: reached.marks,
@@ -106,6 +108,40 @@ impl Router {
             Some(cost) => Ok(cost),
             None => Err(NoPath),
         }
+    }
+
+    /// Later paths keep off the nodes that the net's tree has now, where others cost no more and the nodes have penalties. Takes no memory,
+    /// and goes over all nodes.
+    pub fn avoid(&mut self, net: u32)
+        ensures { self.new ≡ self.old }
+    {
+        keep_off(&mut self.board, net);
+    }
+
+    /// Takes the paths of a net out: its tree is its first point again, and every other tree stays. Their nodes are owned by whom they are
+    /// reserved for, as when the router began. Takes no memory, and goes over all nodes.
+    pub fn take_out(&mut self, net: u32)
+        requires begun { tree_of self.old net ≢ None }
+        ensures { TakesOut net self.old self.new }
+    {
+        tear(&mut self.board, net);
+    }
+
+    /// A net that blocks the way to a target to which no path of free nodes leads from the net's tree: where nodes of other nets' trees
+    /// count as free and nodes that are reserved for other nets don't, a least path leads there, and the tree of the net that is given has
+    /// the first node on it, counted from the net's tree, that isn't free. None exactly where there is no such path. Nothing changes.
+    /// Takes no memory.
+    pub fn blocker(&mut self, net: u32, target: Node) -> Option<u32>
+        requires begun { tree_of self.old net ≢ None }
+        requires within { IsInGrid self.old.occupied.grid target }
+        requires stuck { (path : List AnyNode) → IsPath (IsFree self.old.occupied net) (tree_nodes (tree_of self.old net)) target path → ⊥ }
+        ensures blocks { IfSome result (λ b. Blocks self.old net target b) }
+        ensures none { IfNone result ((path : List AnyNode)
+            → IsPath (IsFree self.old.reserved net) (tree_nodes (tree_of self.old net)) target path → ⊥) }
+        ensures same { self.new ≡ self.old }
+    {
+        let at = number_of(&self.board.room.grid, target);
+        block(&mut self.board, net, at)
     }
 
     /// The trees of all nets, of which there are so many, by their numbers. Takes memory for the trees, and goes over their nodes alone.

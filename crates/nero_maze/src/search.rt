@@ -3,7 +3,7 @@ ghost use Rattle.std.specs.Prelude.{◌≡◌, ℕ, ◌<◌, List, IfNone, IfSom
 ghost use Rattle.grid_core.specs.Numbers.{nodes};
 ghost use Rattle.nero_maze.specs.Search.{IsRoom, IsOwn, Kept, LeadsTo, NoneBelow, Trace};
 
-use crate::frontier::{Frontier, Room, START, Span, expand, met, settle};
+use crate::frontier::{Field, Frontier, Room, START, Span, expand, met, settle};
 
 /// The node of the net's tree that a search met, and the cost from there to the target.
 #[derive(Clone, Copy, Drop)]
@@ -12,9 +12,17 @@ pub(crate) struct Meeting {
     pub(crate) cost: u64,
 }
 
-/// Goes from the target, level by level of cost, until it meets a node of the net's tree.
-pub(crate) fn search(room: &Room, net: u32, target: u32, frontier: &mut Frontier) -> Option<Meeting>
+/// Goes from the target, level by level of cost, over the nodes whose word is the net's own or `NOBODY`, until it meets a node of the
+/// net's tree.
+pub(crate) fn search(
+    room: &Room,
+    words: &Vec<u32>,
+    net: u32,
+    target: u32,
+    frontier: &mut Frontier,
+) -> Option<Meeting>
     requires room { IsRoom room.now }
+    requires words { length words.now.items ≡ nodes room.now.grid }
     requires marks { length frontier.old.marks.items ≡ nodes room.now.grid }
     requires order { length frontier.old.order.items ≡ nodes room.now.grid }
     requires clear { (v : ℕ) → slice_index frontier.old.marks.items v ≡ 0 }
@@ -25,12 +33,17 @@ pub(crate) fn search(room: &Room, net: u32, target: u32, frontier: &mut Frontier
     ensures within { IfSome result (λ m. m.node < nodes room.now.grid) }
     ensures own { IfSome result (λ m. IsOwn room.now.owners.items room.now.links.items net m.node) }
     ensures trace { IfSome result (λ m. (back : List ℕ) × (length back < nodes room.now.grid)
-        × Trace room.now.grid room.now.owners.items net frontier.new.marks.items target m.node back m.cost) }
+        × Trace room.now.grid words.now.items net frontier.new.marks.items target m.node back m.cost) }
     ensures least { IfSome result (λ m. (v : ℕ) → IsOwn room.now.owners.items room.now.links.items net v
-        → NoneBelow room.now.grid room.now.owners.items net target v m.cost) }
+        → NoneBelow room.now.grid words.now.items net target v m.cost) }
     ensures none { IfNone result ((v : ℕ) (back : List ℕ) (c : ℕ) → IsOwn room.now.owners.items room.now.links.items net v
-        → LeadsTo room.now.grid room.now.owners.items net target v back c → ⊥) }
+        → LeadsTo room.now.grid words.now.items net target v back c → ⊥) }
 {
+    let field = Field {
+        grid: room.grid,
+        words,
+        net,
+    };
     frontier.ties.set(target, 0);
     frontier.marks[target as usize] = START;
     frontier.order[0] = target;
@@ -45,12 +58,12 @@ pub(crate) fn search(room: &Room, net: u32, target: u32, frontier: &mut Frontier
             from: steps,
             to: known,
         };
-        expand(room, net, frontier, last, 0);
+        expand(&field, frontier, last, 0);
         let third = Span {
             from: vias,
             to: vias_end,
         };
-        expand(room, net, frontier, third, 2);
+        expand(&field, frontier, third, 2);
         settle(frontier, known);
         if let Some(node) = met(room, net, frontier, known) {
             return Some(Meeting { node, cost });

@@ -40,13 +40,13 @@ In_back : (xs : List ℕ) (x : ℕ) → In x xs → In x (reverse xs)
 In_back xs x i = In_reverse (reverse xs) x (subst (λ zs. In x zs) (sym (reverse-reverse xs)) i)
 
 module _ (k : AbstractNetlist) (l : Library) (p : InRow) (nets : List NetPoints) (are : ArePointsOf k l p nets) where
-  same_points : AreSame (length nets) (net_points nets) (nodes_of k l p)
+  pub same_points : AreSame (length nets) (net_points nets) (nodes_of k l p)
   same_points j low =
       let at = at_place nets j low in
       let is = are.each j at.0 at.1 in
       ap (maze.nodes_of maze.points_of) at.1 ∙ ap₂ (λ (a b : List Node). a ++ b) is.port is.terminals
 
-  same_reserved : AreSame (length nets) (net_reserved nets) (reserved_of k l p)
+  pub same_reserved : AreSame (length nets) (net_reserved nets) (reserved_of k l p)
   same_reserved j low =
       let at = at_place nets j low in
       let is = are.each j at.0 at.1 in
@@ -91,7 +91,7 @@ module _ (k : AbstractNetlist) (l : Library) (p : InRow) (nets : List NetPoints)
         subst (λ (m : ℕ). AreWhole (nodes_of k l p) m routes) are.many
         (whole_same g (length nets) (net_reserved nets) (reserved_of k l p) (net_points nets) (nodes_of k l p) same_reserved same_points routes h)
 
-    sorted_as : (order : List ℕ) → IsNetOrder (half_perimeter nets) (length nets) order
+    pub sorted_as : (order : List ℕ) → IsNetOrder (half_perimeter nets) (length nets) order
         → IsNetOrder (net_reach k l (net_number k l) (rows_of k p) (stood_in k p)) (net_count k) order
     sorted_as order h =
         subst (λ (m : ℕ). IsNetOrder (net_reach k l (net_number k l) (rows_of k p) (stood_in k p)) m order) are.many
@@ -166,7 +166,7 @@ module _ (l : Library) (n : InMemory) (p : InRow) (placed : IsRowPlacementOf l n
 
 module _ (l : Library) (n : InMemory) (p : InRow) (metals : ℕ) (placed : IsRowPlacementOf l n p) (some : 3 ≤ metals) (nets : List NetPoints) (are : ArePointsIn l n p nets) (g : Grid)
     (is : (c : Library) (k : AbstractNetlist) → AreRowsOf k c p → g ≡ grid_of metals k c p) where
-  grid_is : (k : AbstractNetlist) → IsSeenAs n k → g ≡ grid_of metals k l p
+  pub grid_is : (k : AbstractNetlist) → IsSeenAs n k → g ≡ grid_of metals k l p
   grid_is k seen = is l k (placed.rows k seen)
 
   abbrev any : AbstractNetlist

@@ -9,3 +9,4 @@ mod terminals;
 pub use error::RouteError;
 pub use law::{grids_are_small, marks_tell_nets};
 pub use route::route_all;
+pub use terminals::net_terminals;

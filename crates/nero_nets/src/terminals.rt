@@ -116,7 +116,7 @@ fn push_pins(
 
 /// The terminals of a net in the order of its points: its port, if it has one, then its pins in the order of instances and of names.
 /// Takes memory for them, and for the class of each net.
-pub(crate) fn net_terminals(
+pub fn net_terminals(
     alloc: Global,
     placement: &Placement,
     netlist: &Netlist,

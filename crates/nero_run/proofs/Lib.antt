@@ -1,3 +1,3 @@
 mod Texts
-mod Grid
-mod Refusing
+pub mod Grid
+pub mod Refusing

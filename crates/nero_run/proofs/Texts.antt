@@ -1,5 +1,5 @@
 -- What is written of a placement is lines of the format.
-use Rattle.std.proofs.Common.{◌≡◌, ℕ, List, sym, subst}
+use Rattle.std.proofs.Common.{ℕ, List, sym, subst}
 use Rattle.ap_io.specs.ApText.{IsApLines}
 use Rattle.ap_io.specs.Laws.{LinesAreReadAgain}
 use Rattle.route_draw.specs.Grid.{AreDrawable}

@@ -1,5 +1,5 @@
 -- What `nero` reads and answers.
-use Rattle.std.specs.Prelude.{◌≡◌, ◌≤◌, ℕ, false, List, [], ◌∷◌, ◌++◌, get_or, codes, None, Some, Result, Ok, Err}
+use Rattle.std.specs.Prelude.{◌≡◌, ◌≤◌, ℕ, false, List, [], ◌∷◌, get_or, codes, None, Some, Result, Ok, Err}
 use Rattle.vlsi_base.specs.declared.fault.FaultKind.TheVariants as kind
 use Rattle.vlsi_base.specs.declared.fault.LimitKind.TheVariants.{Size}
 use Rattle.vlsi_base.specs.declared.name.Terminal.{Terminal}
@@ -70,19 +70,16 @@ IsOverGrid l n p metals s =
     (k : Seen) → IsSeenAs n k
     → (4294967295 ≤ nodes (grid_of metals k l p)) × (s ≡ status.Limit (record { which = Size; reached = nodes (grid_of metals k l p) }))
 
--- what is read, up to the placement
-pub record IsGiven (c : Asked) (t : Texts) : Type 0 where
-  pub l : Library
+-- a library, a netlist and its placement, as they are read
+pub record IsGiven (t : Texts) (l : Library) (n : Netlist) (p : InRow) : Type 0 where
   pub table : List ModelPins
-  pub n : Netlist
   pub read : NetlistIsRead t l table n
-  pub placement : InRow
-  pub placed : IsPlacementIn t.placed l n placement
+  pub placed : IsPlacementIn t.placed l n p
 
--- and the grid over its rows isn't too large
-pub record IsRoutable (c : Asked) (t : Texts) : Type 0 where
-  pub given : IsGiven c t
-  pub few : HasFewNodes given.l given.n given.placement c.metals
+-- and the grid over the rows isn't too large
+pub record IsRoutable (c : Asked) (t : Texts) (l : Library) (n : Netlist) (p : InRow) : Type 0 where
+  pub given : IsGiven t l n p
+  pub few : HasFewNodes l n p c.metals
 
 -- NAME.ap is the text of the placement with routes: its nets were routed by half perimeter, then by number, each whole and by least paths
 -- beside those before it. It is printed how many nets there are.
@@ -104,8 +101,11 @@ pub record IsLeftStuck (c : Asked) (l : Library) (n : Netlist) (p : InRow) (r : 
 
 -- Library, netlist and placement are read, and the layout is written.
 pub record IsRouting (c : Asked) (t : Texts) (product : Product) : Type 0 where
-  pub routable : IsRoutable c t
-  pub laid : IsLaidOut c routable.given.l routable.given.n routable.given.placement product
+  pub l : Library
+  pub n : Netlist
+  pub placement : InRow
+  pub routable : IsRoutable c t l n placement
+  pub laid : IsLaidOut c l n placement product
 
 -- What is refused without a file, in this order: the library, the netlist, its placement, and a grid with too many nodes.
 pub data IsPlainRefusal (c : Asked) (t : Texts) (s : Status) : Type 0 where
@@ -113,12 +113,12 @@ pub data IsPlainRefusal (c : Asked) (t : Texts) (s : Status) : Type 0 where
   no_source : (l : Library) (table : List ModelPins) → IsLibraryOf false t.catal t.cells l → IsTableOf l false table
       → IsNoSource c.source t.source table s → IsPlainRefusal c t s
   unplaced : (l : Library) (table : List ModelPins) (n : Netlist) → NetlistIsRead t l table n → IsUnplaced c.placed t.placed l n s → IsPlainRefusal c t s
-  large_grid : (g : IsGiven c t) → IsOverGrid g.l g.n g.placement c.metals s → IsPlainRefusal c t s
+  large_grid : (l : Library) (n : Netlist) (p : InRow) → IsGiven t l n p → IsOverGrid l n p c.metals s → IsPlainRefusal c t s
 
 -- one of these, without a file; or then a net that got stuck
 pub data IsNeroRefusal (c : Asked) (t : Texts) (r : Refusal) : Type 0 where
   plain : r.part ≡ None → IsPlainRefusal c t r.status → IsNeroRefusal c t r
-  stuck : (x : IsRoutable c t) → IsLeftStuck c x.given.l x.given.n x.given.placement r → IsNeroRefusal c t r
+  stuck : (l : Library) (n : Netlist) (p : InRow) → IsRoutable c t l n p → IsLeftStuck c l n p r → IsNeroRefusal c t r
 
 -- the layout is written and the number of nets is printed, or one of these refusals
 abbrev pub Routes : Asked → Texts → Result Product Refusal → Type 0

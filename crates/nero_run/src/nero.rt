@@ -6,17 +6,15 @@ ghost use Rattle.ocp_grid.specs.Points.{HasFewNodes};
 ghost use Rattle.tool_drive.specs.Table.{IsFair, IsJudged};
 ghost use Rattle.nero_run.specs.Nero.{texts, IsLaidOut, IsLeftStuck, Routes};
 
-use crate::placed::{check_nodes, read_placement};
+use crate::given::read_given;
 use crate::words::NeroCommand;
 use crate::written::{refusal, row_text};
 use cell_checks::Library;
 use cell_lib::LibraryTool;
-use cell_pins::pin_table;
 use net_core::Netlist;
 use ocp_place::Placement;
-use ocp_run::{read_source, source_law};
 use std::alloc::{AllocError, Global};
-use tool_drive::{Answer, Product, Refusal, Wanted, bytes_at, count_text, file_name};
+use tool_drive::{Answer, Product, Refusal, Wanted, count_text, file_name};
 use vlsi_base::{FileBytes, FileName};
 
 // The layout of a placement with routes in NAME.ap, and how many nets there are; or what stands in NAME_part.ap.
@@ -58,27 +56,11 @@ fn routed(
     ensures { (more : List (List ℕ)) → IsLibraryOf false (get_or first.now 2 []) more library.now
         → IsJudged (Routes command.now (texts first.now more)) result }
 {
-    source_law();
-    let table = pin_table(alloc, library, false)?;
-    let netlist = match read_source(alloc, &command.source, bytes_at(first, 0), &table) {
-        Ok(netlist) => netlist,
+    let given = match read_given(alloc, command, library, first) {
+        Ok(given) => given,
         Err(status) => return Err(Refusal::plain(status)),
     };
-    let placed = read_placement(
-        alloc,
-        &command.placed,
-        bytes_at(first, 1),
-        &netlist,
-        library,
-    );
-    let placement = match placed {
-        Ok(placement) => placement,
-        Err(status) => return Err(Refusal::plain(status)),
-    };
-    if let Err(status) = check_nodes(&placement, command.metals) {
-        return Err(Refusal::plain(status));
-    }
-    product(alloc, command, &netlist, library, &placement)
+    product(alloc, command, &given.netlist, library, &given.placement)
 }
 
 /// `nero`, with what it is asked: it routes the nets of the netlist in SOURCE over the placement in PLACED, writes the layout to NAME.ap,

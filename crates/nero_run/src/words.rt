@@ -1,4 +1,6 @@
 // The words of `nero`, and what they ask of it.
+ghost use Rattle.std.specs.Prelude.{◌≡◌, ◌≤◌};
+
 use flow_words::METALS;
 use std::alloc::Global;
 use std::marker::Model;
@@ -27,8 +29,25 @@ impl Model for NeroCommand {
     ghost invariant = { λ a. AreMetals a.metals };
 }
 
-// The layout of the placement.
-const PLACED: Setting = Setting {
+impl NeroCommand {
+    /// The name of the layout, without its ending.
+    pub fn out(&self) -> &FileName
+        ensures { result.now ≡ self.now.out }
+    {
+        &self.out
+    }
+
+    /// The highest metal of routes.
+    pub fn metals(&self) -> u32
+        ensures metals { result ≡ self.now.metals }
+        ensures range { (4 ≤ result) × (result ≤ 6) }
+    {
+        self.metals
+    }
+}
+
+/// The layout of the placement.
+pub const PLACED: Setting = Setting {
     name: "placed",
     letter: Some(b'p'),
     value: "PLACED",

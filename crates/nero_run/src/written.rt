@@ -40,8 +40,8 @@ impl From<AllocError> for NoRoutes {
     }
 }
 
-// The text of the placement with these routes.
-fn whole_text(
+/// The text of the placement with these routes. Memory goes by its lines.
+pub fn whole_text(
     alloc: Global,
     netlist: &Netlist,
     library: &Library,
@@ -57,8 +57,8 @@ fn whole_text(
     write_ap(alloc, &figure)
 }
 
-// And with marks at the points of nets.
-fn part_text(
+/// And with a mark at each point of each net.
+pub fn part_text(
     alloc: Global,
     netlist: &Netlist,
     library: &Library,

@@ -12,7 +12,7 @@ use Rattle.cell_model.proofs.Texts.{text_itself, text_differs}
 use Rattle.net_core.specs.Netlist.{Netlist, pin_of}
 use Rattle.loon_fanout.specs.Sinks.{is_same_owner, is_same_terminal}
 use Rattle.loon_fanout.proofs.Terminals.{owner_same, terminal_same}
-use Rattle.scan_theory.proofs.Lists.{in_cons}
+use Rattle.net_bits.proofs.Lists.{in_cons}
 use Rattle.scan_theory.specs.Gates.{Gate, read_class, gate_class, class_with}
 use Rattle.scan_theory.specs.Scan.{Cells, Stage, on_scin, on_test, shown, loads, gives, gate_name, inverts, nands, chain, first_gate, gates, class_in, fed}
 

@@ -1,7 +1,3 @@
-pub mod Lists
-pub mod Bits
-pub mod Numbers
-pub mod Held
 pub mod Wired
 pub mod Cells
 pub mod Chain

@@ -17,7 +17,7 @@ use Rattle.cell_pins.specs.Pins.{supply}
 use Rattle.cell_pins.proofs.Ports.{Sorted, in_filter, sorted_filter, before_trans, sorted_supply}
 use Rattle.net_right.proofs.Lists.{filter_in}
 use Rattle.net_right.proofs.Ports.{with_both, both_cases, vss_there, vdd_there}
-use Rattle.scan_theory.proofs.Lists.{in_cons}
+use Rattle.net_bits.proofs.Lists.{in_cons}
 use Rattle.scan_theory.specs.Scan.{scin, test, scout, in_port, out_port, with_port, scan_ports}
 
 -- names whose test computes to no

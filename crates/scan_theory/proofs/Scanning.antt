@@ -37,10 +37,10 @@ use Rattle.scan_theory.specs.Scan.{scin, test, scout, in_port, out_port, scan_po
 use Rattle.scan_theory.specs.Path.{is_flip_flop, holds_bit, is_register, register_names}
 use Rattle.scan_theory.specs.Meaning.{IsShifted, last_bit, ArePorts, IsScanCycle, Scans}
 use Rattle.scan_theory.specs.Laws.{IsScanOf, ScannedScans}
-use Rattle.scan_theory.proofs.Lists.{IsMadeOf, named_in}
-use Rattle.scan_theory.proofs.Numbers.{IsByClass, renumbered, renumbered_bit}
-use Rattle.scan_theory.proofs.Bits.{pins_by, Gives, Cycle, AreBits, AreAmong, bits_of, bits_same, valuation_of, bits_shown, settles_by}
-use Rattle.scan_theory.proofs.Held.{loaded_by, cell_holds, held_by, next_is, held_same, HoldNothing, held_before}
+use Rattle.net_bits.proofs.Lists.{IsMadeOf, named_in}
+use Rattle.net_bits.proofs.Numbers.{IsByClass, renumbered, renumbered_bit}
+use Rattle.net_bits.proofs.Bits.{pins_by, Gives, Cycle, AreBits, AreAmong, bits_of, bits_same, valuation_of, bits_shown, settles_by}
+use Rattle.net_bits.proofs.Held.{loaded_by, cell_holds, held_by, next_is, held_same, HoldNothing, held_before}
 use Rattle.scan_theory.proofs.Wired.{in_its}
 use Rattle.scan_theory.proofs.Cells.{Celled, output_role, inverter, nand}
 use Rattle.scan_theory.proofs.Chain.{class_signal}

@@ -44,7 +44,7 @@ use Rattle.scan_theory.specs.Path.{register_names, added}
 use Rattle.scan_theory.specs.Laws.{IsScanOf}
 use Rattle.scan_theory.proofs.Wired.{IsDriver, IsReader, IsWired, role_once, told_below, class_of, wired_of_sound}
 use Rattle.scan_theory.proofs.Cells.{Celled, celled_by, celled, made_of, output_role, inverter, nand, IsGateCell, gate_cell, GatePin, on_supply as at_supply, reads, drives, gate_pin, gate_output}
-use Rattle.scan_theory.proofs.Lists.{input_pin, output_pin}
+use Rattle.net_bits.proofs.Lists.{input_pin, output_pin}
 use Rattle.scan_theory.proofs.Chain.{gates_each, gates_read, Climbs, gates_climb, Numbered, numbered_in, one_shown, other_told, gate_told, read_in, read_out, class_vdd, class_vss, class_signal, feeder_in, unfed, last_gate}
 use Rattle.scan_theory.proofs.Ports.{port_of, PortOf, is_scout, is_test, is_scin, is_vss, is_vdd, is_old, test_in, scin_in, vdd_in, vss_in, from_both}
 use Rattle.net_right.proofs.Ports.{port_stays}

@@ -1,5 +1,5 @@
 -- All pairs that were seen, sorted, each once.
-use Rattle.std.proofs.Common.{◌≡◌, ℕ, ◌<◌, Bool, true, ◌&&◌, eqb, List, [], length, inl, inr, refl, sym, subst, arith}
+use Rattle.std.proofs.Common.{◌≡◌, ℕ, ◌<◌, Bool, true, ◌&&◌, eqb, List, [], length, inl, inr, Option, refl, sym, subst, arith}
 use Rattle.std.specs.List.{Contains, dedup}
 use Rattle.std.specs.List.Sorted.{IsPermutation, IsSorted, IsStrictlySortedBy}
 use Rattle.std.specs.Cmp.{IsTotalOrder, IsEquivalence}
@@ -15,8 +15,8 @@ use Rattle.sym_near.specs.declared.near.Relation.{Relation}
 use Rattle.sym_near.specs.declared.near.Pair.{Pair}
 use Rattle.sym_near.specs.declared.sweep.Entry.{Entry}
 use Rattle.sym_near.specs.Related.{pair_cmp, Gains, AreRelated}
-use Rattle.sym_near.specs.Sweep.{Ordered, SeesRuns, SharesAll}
-use Rattle.sym_near.proofs.Sweeps.{sees_all}
+use Rattle.sym_near.specs.Sweep.{Ordered, SeesRuns, SharesEither}
+use Rattle.sym_near.proofs.Sweeps.{gains_then, sees_still, sees_all}
 
 abbrev pub same_pair : Pair → Pair → Bool
 same_pair p q = eqb p.first q.first && eqb p.second q.second
@@ -49,10 +49,10 @@ same_is p q h =
 none_in : (p : Pair) → Contains [] p → ⊥
 none_in p h = let low = h.1 in omega (arith, low)
 
-pub related_all : (all : List Shape) (r : Relation) (entries : List Entry) (olds found ordered kept : List Pair) → olds ≡ [] → Gains all r olds found
-    → SeesRuns all r entries found (length entries) → Ordered entries → SharesAll all r entries → IsPermutation found ordered → IsSorted pair_cmp ordered
-    → kept ≡ dedup same_pair ordered → AreRelated all r kept
-related_all all r entries olds found ordered kept none gains sees in_order shares moved sorted is = record {
+pub related_all : (all : List Shape) (r : Relation) (beside : Option ℕ) (entries turned : List Entry) (olds half found ordered kept : List Pair) → olds ≡ [] → Gains all r olds half → Gains all r half found
+    → SeesRuns all r beside entries half (length entries) → SeesRuns all r beside turned found (length turned) → Ordered entries × Ordered turned → SharesEither all r beside entries turned
+    → IsPermutation found ordered → IsSorted pair_cmp ordered → kept ≡ dedup same_pair ordered → AreRelated all r kept
+related_all all r beside entries turned olds half found ordered kept none first second sees more in_order shares moved sorted is = let gains = gains_then all r beside olds half found first second in record {
   sound = λ p h.
       let kept_in : Contains (dedup same_pair ordered) p = subst (λ (ps : List Pair). Contains ps p) is h in
       let found_in : Contains found p = Contains-permutation ordered found p (IsPermutation-sym found ordered moved) (Contains-from_dedup same_pair ordered p kept_in) in
@@ -61,7 +61,7 @@ related_all all r entries olds found ordered kept none gains sees in_order share
         | inr new ↦ new
       ];
   whole = λ i j h.
-      let found_in = sees_all all r entries found in_order sees shares i j h in
+      let found_in = sees_all all r beside entries turned found in_order.0 in_order.1 (sees_still all r beside entries half found (length entries) second sees) more shares i j h in
       subst (λ (ps : List Pair). Contains ps (record { first = i; second = j })) (sym is)
       (Contains-dedup pair_equiv same_is ordered (record { first = i; second = j }) (Contains-permutation found ordered (record { first = i; second = j }) moved found_in));
   sorted = subst (λ (ps : List Pair). IsStrictlySortedBy pair_cmp ps) (sym is) (IsStrictlySortedBy-dedup pair_total pair_ties ordered sorted);

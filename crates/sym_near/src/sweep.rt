@@ -1,8 +1,8 @@
 // Shapes of one metal that are related, found along bands.
-ghost use Rattle.std.specs.Prelude.{◌≡◌, ◌<◌, ◌≤◌, ◌↔◌, length, IsTrue, OnOk, Contains};
+ghost use Rattle.std.specs.Prelude.{◌≡◌, ◌<◌, ◌≤◌, ◌+◌, ◌↔◌, length, IsTrue, OnOk, Contains, Some};
 ghost use Rattle.std.specs.List.Sorted.{IsPermutation};
 ghost use Rattle.sym_near.specs.Related.{Gains, Relates, pair};
-ghost use Rattle.sym_near.specs.Sweep.{InBand, PlacesWithin, Ordered, SeesFrom, SeesRuns, entry_from};
+ghost use Rattle.sym_near.specs.Sweep.{InBand, PlacesWithin, Ordered, Skips, SeesFrom, SeesRuns, entry_from};
 
 use crate::near::{Pair, Relation, relates};
 use std::alloc::AllocError;
@@ -35,14 +35,65 @@ fn in_band(first: &Entry, entry: &Entry) -> bool
     entry.metal == first.metal && entry.band == first.band && entry.left <= first.right
 }
 
-/// Where the run of an entry ends: the entries behind it in its band that aren't right of it.
-fn run_end(entries: &[Entry], p: usize) -> usize
-    requires { p < length entries.now }
+/// Whether an entry is in the band of the first, and begins where that one hasn't ended, the gap left out.
+fn overlaps(first: &Entry, entry: &Entry, gap: u32) -> bool
+    ensures same { IsTrue result → (entry.now.metal ≡ first.now.metal) × (entry.now.band ≡ first.now.band) }
+    ensures before { IsTrue result → entry.now.left + gap ≤ first.now.right }
+{
+    if entry.metal != first.metal || entry.band != first.band {
+        return false;
+    }
+    match first.right.checked_sub(u64::from(gap)) {
+        Some(end) => entry.left <= end,
+        None => false,
+    }
+}
+
+/// Where the entries behind one end that overlap it in its band.
+fn overlap_end(entries: &[Entry], gap: u32, p: usize) -> usize
+    requires p_within { p < length entries.now }
+    requires ordered { Ordered entries.now }
     ensures after { p < result }
+    ensures within { result ≤ length entries.now }
+    ensures skips { Skips (Some gap) entries.now p result }
+{
+    let mut low = p + 1;
+    let mut high = entries.len();
+    while low < high {
+        let middle = low + (high - low) / 2;
+        if overlaps(&entries[p], &entries[middle], gap) {
+            low = middle + 1;
+        } else {
+            high = middle;
+        }
+    }
+    low
+}
+
+/// The first entry behind one at which the sweep looks: all are, or where a gap is given those that don't overlap it.
+fn run_start(entries: &[Entry], beside: Option<u32>, p: usize) -> usize
+    requires p_within { p < length entries.now }
+    requires ordered { Ordered entries.now }
+    ensures after { p < result }
+    ensures within { result ≤ length entries.now }
+    ensures skips { Skips beside entries.now p result }
+{
+    match beside {
+        Some(gap) => overlap_end(entries, gap, p),
+        None => p + 1,
+    }
+}
+
+/// Where the run of an entry ends, from one behind it on: the entries in its band that aren't right of it.
+fn run_end(entries: &[Entry], p: usize, start: usize) -> usize
+    requires p_within { p < length entries.now }
+    requires after { p < start }
+    requires within { start ≤ length entries.now }
+    ensures from { start ≤ result }
     ensures within { result ≤ length entries.now }
     ensures last { result < length entries.now → ¬ (InBand (entry_from entries.now p) (entry_from entries.now result)) }
 {
-    let mut end = p + 1;
+    let mut end = start;
     while end < entries.len() && in_band(&entries[p], &entries[end]) {
         end += 1;
     }
@@ -69,22 +120,33 @@ fn put(
     Ok(())
 }
 
-/// Looks at the shape of an entry and at each of its run.
+/// Which pairs of shapes are looked for, and at which entries behind each the sweep looks: at all of its run, or where a gap is given
+/// at those that don't overlap it.
+#[derive(Clone, Copy)]
+pub struct Search {
+    pub relation: Relation,
+    pub beside: Option<u32>,
+}
+
+/// Looks at the shape of an entry and at those of its run.
 fn look_run(
     pairs: &mut Vec<Pair>,
     shapes: &[Shape],
-    relation: Relation,
+    search: Search,
     entries: &[Entry],
     p: usize,
 ) -> Result<(), AllocError>
     requires places { PlacesWithin shapes.now entries.now }
+    requires ordered { Ordered entries.now }
     requires p_within { p < length entries.now }
-    ensures gains { OnOk result (Gains shapes.now relation pairs.old.items pairs.new.items) }
-    ensures sees { OnOk result (SeesFrom shapes.now relation entries.now pairs.new.items p) }
+    ensures gains { OnOk result (Gains shapes.now search.relation pairs.old.items pairs.new.items) }
+    ensures sees { OnOk result (SeesFrom shapes.now search.relation search.beside entries.now pairs.new.items p) }
 {
+    let relation = search.relation;
     let first = entries[p].place;
-    let end = run_end(entries, p);
-    for q in p + 1..end {
+    let start = run_start(entries, search.beside, p);
+    let end = run_end(entries, p, start);
+    for q in start..end {
         let second = entries[q].place;
         put(pairs, shapes, relation, first, second)?;
         put(pairs, shapes, relation, second, first)?;
@@ -96,15 +158,16 @@ fn look_run(
 pub fn look_all(
     pairs: &mut Vec<Pair>,
     shapes: &[Shape],
-    relation: Relation,
+    search: Search,
     entries: &[Entry],
 ) -> Result<(), AllocError>
-    requires { PlacesWithin shapes.now entries.now }
-    ensures gains { OnOk result (Gains shapes.now relation pairs.old.items pairs.new.items) }
-    ensures sees { OnOk result (SeesRuns shapes.now relation entries.now pairs.new.items (length entries.now)) }
+    requires places { PlacesWithin shapes.now entries.now }
+    requires ordered { Ordered entries.now }
+    ensures gains { OnOk result (Gains shapes.now search.relation pairs.old.items pairs.new.items) }
+    ensures sees { OnOk result (SeesRuns shapes.now search.relation search.beside entries.now pairs.new.items (length entries.now)) }
 {
     for p in 0..entries.len() {
-        look_run(pairs, shapes, relation, entries, p)?;
+        look_run(pairs, shapes, search, entries, p)?;
     }
     Ok(())
 }

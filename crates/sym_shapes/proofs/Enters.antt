@@ -8,12 +8,13 @@ use Rattle.std.proofs.lemmas.Int.{ints}
 use Rattle.std.proofs.lemmas.List.Sorted.{Contains-permutation}
 use Rattle.std.proofs.Math.Pow.{shr_mono}
 use Rattle.sym_geom.specs.Rect.{Meet}
+use Rattle.sym_groups.specs.Ties.{Tied}
 use Rattle.sym_geom.specs.declared.rect.Rect.{Rect}
 use Rattle.sym_shapes.specs.Shape.{Shape}
 use Rattle.sym_shapes.specs.declared.bands.Cut.{Cut}
 use Rattle.sym_shapes.specs.declared.sweep.Entry.{Entry}
 use Rattle.sym_shapes.specs.Bands.{laid, IsLevel, band_of, entry_of, IsEntered, EntersAll, uncut, cut_for}
-use Rattle.sym_shapes.specs.Sweep.{PlacesWithin, Ordered, CoversRuns, CoversTouching}
+use Rattle.sym_shapes.specs.Sweep.{PlacesWithin, Ordered, Touch, CoversRuns}
 use Rattle.sym_shapes.proofs.Sweeps.{none, any_entry, Share, covers_touching}
 
 -- entries that are moved are of shapes as before
@@ -66,9 +67,11 @@ shared xs ys cut a b i j k w same m first second =
       left_p = rw (p_is, q_is) m.left;
     }
 
-pub covers_touching_all : (shapes : List Shape) (cuts : List Cut) (xs ys : List Entry) (ps : List ℕ) → EntersAll shapes cuts xs → IsPermutation xs ys
-    → Ordered ys → CoversRuns shapes ys ps (length ys) → CoversTouching shapes ps
-covers_touching_all shapes cuts xs ys ps each w ordered runs i j d hi hj t =
+-- the sweep covers what touches among the shapes that were entered
+pub covers_entered : (shapes : List Shape) (places : List ℕ) (cuts : List Cut) (xs ys : List Entry) (ps : List ℕ) → EntersAll shapes places cuts xs
+    → IsPermutation xs ys → Ordered ys → CoversRuns shapes ys ps (length ys)
+    → (i j : ℕ) (d : Shape) → Contains places i → Contains places j → Touch (get_or shapes i d) (get_or shapes j d) → Tied ps i j
+covers_entered shapes places cuts xs ys ps each w ordered runs i j d hi hj t =
     let a = get_or shapes i d in
     let b = get_or shapes j d in
     let cut = cut_for cuts a in

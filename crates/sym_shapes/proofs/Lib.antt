@@ -3,6 +3,7 @@ pub mod Labels
 pub mod Paths
 pub mod Joins
 pub mod Enters
+pub mod Held
 pub mod Orders
 pub mod Sweeps
 pub mod Grown

@@ -1,5 +1,5 @@
 -- Bands of a metal: strips of rows or of columns, in which shapes that touch come together.
-use Rattle.std.specs.Prelude.{◌≡◌, ℕ, ◌/◌, ◌^◌, ◌<◌, ◌≤◌, min, ℤ, pos, ◌+ℤ◌, List, length, slice_index_or, false, if◌then◌else◌, Contains}
+use Rattle.std.specs.Prelude.{◌≡◌, ℕ, ◌/◌, ◌^◌, ◌≤◌, min, ℤ, pos, ◌+ℤ◌, List, slice_index_or, false, if◌then◌else◌, Contains}
 use Rattle.sym_geom.specs.declared.rect.Rect.{Rect}
 use Rattle.sym_shapes.specs.Shape.{Shape}
 use Rattle.sym_shapes.specs.declared.bands.Cut.{Cut}
@@ -51,7 +51,7 @@ uncut = record { upright = false; shift = 0 }
 abbrev pub cut_for : List Cut → Shape → Cut
 cut_for cuts s = slice_index_or cuts s.metal uncut
 
--- each shape is entered, as its metal is cut
-abbrev pub EntersAll : List Shape → List Cut → List Entry → Type 0
-EntersAll shapes cuts entries = (k : ℕ) (d : Shape) → k < length shapes
+-- each shape of these places is entered, as its metal is cut
+abbrev pub EntersAll : List Shape → List ℕ → List Cut → List Entry → Type 0
+EntersAll shapes places cuts entries = (k : ℕ) (d : Shape) → Contains places k
     → IsEntered (cut_for cuts (slice_index_or shapes k d)) (slice_index_or shapes k d) k entries

@@ -1,6 +1,7 @@
 pub mod Shape
 pub mod Joined
 pub mod Joints
+pub mod Holders
 pub mod Sweep
 pub mod Bands
 pub mod Marks

@@ -1,5 +1,5 @@
 // Bands of a metal, and the entries of shapes in them.
-ghost use Rattle.std.specs.Prelude.{◌≡◌, ◌<◌, ◌^◌, length, OnOk, IfOk};
+ghost use Rattle.std.specs.Prelude.{◌≡◌, ◌<◌, length, All, OnOk, IfOk};
 ghost use Rattle.sym_shapes.specs.Bands.{laid, IsLevel, entry_at, IsEntered, AddsOf, EntersAll};
 ghost use Rattle.sym_shapes.specs.Sweep.{PlacesWithin};
 
@@ -122,17 +122,24 @@ fn enter(entries: &mut Vec<Entry>, cut: &Cut, shape: &Shape, place: u32) -> Resu
     Ok(())
 }
 
-/// The entries of all shapes.
-pub fn entries(alloc: Global, shapes: &[Shape], cuts: &[Cut]) -> Result<Vec<Entry>, AllocError>
-    requires room { length shapes.now < 2 ^ 32 }
+/// The entries of the shapes at these places.
+pub fn entries(
+    alloc: Global,
+    shapes: &[Shape],
+    places: &[u32],
+    cuts: &[Cut],
+) -> Result<Vec<Entry>, AllocError>
+    requires within { All (λ k. k < length shapes.now) places.now }
     requires cuts { length cuts.now ≡ 256 }
     ensures places { IfOk result (λ entries. PlacesWithin shapes.now entries.items) }
-    ensures entered { IfOk result (λ entries. EntersAll shapes.now cuts.now entries.items) }
+    ensures entered { IfOk result (λ entries. EntersAll shapes.now places.now cuts.now entries.items) }
 {
-    let mut entries = Vec::with_capacity(alloc, shapes.len())?;
-    for k in 0..shapes.len() {
-        let cut = cuts[shapes[k].metal() as usize];
-        enter(&mut entries, &cut, &shapes[k], k as u32)?;
+    let mut entries = Vec::with_capacity(alloc, places.len())?;
+    for k in 0..places.len() {
+        let place = places[k];
+        let shape = &shapes[place as usize];
+        let cut = cuts[shape.metal() as usize];
+        enter(&mut entries, &cut, shape, place)?;
     }
     Ok(entries)
 }

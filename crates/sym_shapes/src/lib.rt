@@ -5,6 +5,7 @@ mod bands;
 mod chains;
 mod drawing;
 mod forest;
+mod holders;
 mod marks;
 mod numbers;
 mod search;

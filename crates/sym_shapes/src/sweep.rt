@@ -7,6 +7,7 @@ ghost use Rattle.sym_shapes.specs.Sweep.{InBand, PlacesWithin, CoversRuns, Cover
 use crate::Shape;
 use crate::bands::{cuts, entries};
 use crate::forest::Forest;
+use crate::holders::join_held;
 use crate::shape::touching;
 use std::alloc::{AllocError, Global};
 
@@ -96,8 +97,9 @@ pub fn join_touching(alloc: Global, forest: &mut Forest, shapes: &[Shape]) -> Re
     ensures grows { OnOk result (Grows shapes.now forest.old forest.new) }
     ensures covers { OnOk result (CoversTouching shapes.now forest.new.groups) }
 {
+    let kept = join_held(alloc, forest, shapes)?;
     let cuts = cuts(shapes);
-    let mut entries = entries(alloc, shapes, &cuts)?;
+    let mut entries = entries(alloc, shapes, &kept, &cuts)?;
     in_order(&mut entries)?;
     join_runs(forest, shapes, &entries)?;
     Ok(())

@@ -36,6 +36,14 @@ use Rattle.flatbeh_run.specs.Words.{flatbeh}
 use Rattle.flatbeh_run.specs.Flatbeh.{flatbeh_plan, flatbeh_answers}
 use Rattle.s2r_run.specs.Words.{s2r}
 use Rattle.s2r_run.specs.S2r.{s2r_plan, s2r_answers}
+use Rattle.scapin_run.specs.Words.{scapin}
+use Rattle.scapin_run.specs.Scapin.{scapin_plan, scapin_answers}
+use Rattle.fmi_run.specs.Words.{fmi}
+use Rattle.fmi_run.specs.Fmi.{fmi_plan, fmi_answers}
+use Rattle.rip_run.specs.Words.{rip}
+use Rattle.rip_run.specs.Rip.{rip_plan, rip_answers}
+use Rattle.area_run.specs.Words.{area}
+use Rattle.area_run.specs.Area.{area_plan, area_answers}
 use Rattle.tool_run.specs.declared.words.Command.{Command}
 use Rattle.tool_run.specs.declared.words.Command.TheVariants as command
 
@@ -65,6 +73,10 @@ task_of (command.Druc c) = record { word = druc.word; plan = druc_plan c; answer
 task_of (command.Proof c) = record { word = proof.word; plan = proof_plan c; answers = proof_answers c }
 task_of (command.Flatbeh c) = record { word = flatbeh.word; plan = flatbeh_plan c; answers = flatbeh_answers c }
 task_of (command.S2r c) = record { word = s2r.word; plan = s2r_plan c; answers = s2r_answers c }
+task_of (command.Scapin c) = record { word = scapin.word; plan = scapin_plan c; answers = scapin_answers c }
+task_of (command.Fmi c) = record { word = fmi.word; plan = fmi_plan c; answers = fmi_answers c }
+task_of (command.Rip c) = record { word = rip.word; plan = rip_plan c; answers = rip_answers c }
+task_of (command.Area c) = record { word = area.word; plan = area_plan c; answers = area_answers c }
 
 -- the word of the command's tool
 abbrev pub word_of : Command → List ℕ

@@ -16,6 +16,10 @@ use Rattle.druc_run.specs.Words.{druc, druc_from}
 use Rattle.proof_run.specs.Words.{proof, proof_from}
 use Rattle.flatbeh_run.specs.Words.{flatbeh, flatbeh_from}
 use Rattle.s2r_run.specs.Words.{s2r, s2r_from}
+use Rattle.scapin_run.specs.Words.{scapin, scapin_from}
+use Rattle.fmi_run.specs.Words.{fmi, fmi_from}
+use Rattle.rip_run.specs.Words.{rip, rip_from}
+use Rattle.area_run.specs.Words.{area, area_from}
 use Rattle.tool_run.specs.declared.words.Command.{Command}
 use Rattle.tool_run.specs.declared.words.Command.TheVariants as command
 
@@ -35,6 +39,10 @@ tools =
     ∷ tool proof command.Proof proof_from
     ∷ tool flatbeh command.Flatbeh flatbeh_from
     ∷ tool s2r command.S2r s2r_from
+    ∷ tool scapin command.Scapin scapin_from
+    ∷ tool fmi command.Fmi fmi_from
+    ∷ tool rip command.Rip rip_from
+    ∷ tool area command.Area area_from
     ∷ []
 
 -- all entries, in the order of the usage line

@@ -59,5 +59,9 @@ pub fn run_tool<S: Shelf, T: Sink>(
         Command::Proof(command) => drive(alloc, b"proof", command, shelf, out),
         Command::Flatbeh(command) => drive(alloc, b"flatbeh", &WithLibrary(command), shelf, out),
         Command::S2r(command) => drive(alloc, b"s2r", &WithLibrary(command), shelf, out),
+        Command::Scapin(command) => drive(alloc, b"scapin", &WithLibrary(command), shelf, out),
+        Command::Fmi(command) => drive(alloc, b"fmi", command, shelf, out),
+        Command::Rip(command) => drive(alloc, b"rip", &WithLibrary(command), shelf, out),
+        Command::Area(command) => drive(alloc, b"area", &WithLibrary(command), shelf, out),
     }
 }

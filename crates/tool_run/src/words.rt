@@ -6,6 +6,7 @@ ghost use Rattle.tool_words.specs.View.{entry_view};
 ghost use Rattle.tool_run.specs.Tools.{tools, entries, command_of};
 ghost use Rattle.tool_run.specs.Laws.{ToolComesFirst};
 
+use area_run::{AREA_ENTRY, AreaCommand};
 use asimut_run::{ASIMUT_ENTRY, AsimutTask};
 use boog_run::{BOOG_ENTRY, BoogCommand};
 use boom_run::{BOOM_ENTRY, BoomCommand};
@@ -13,12 +14,15 @@ use cougar_run::{COUGAR_ENTRY, CougarCommand};
 use druc_run::{DRUC_ENTRY, DrucCommand};
 use flatbeh_run::{FLATBEH_ENTRY, FlatbehCommand};
 use flow_words::{FLOW_ENTRY, GEN_ENTRY};
+use fmi_run::{FMI_ENTRY, FmiCommand};
 use loon_run::{LOON_ENTRY, LoonCommand};
 use lvx_run::{LVX_ENTRY, LvxCommand};
 use nero_run::{NERO_ENTRY, NeroCommand};
 use ocp_run::{OCP_ENTRY, OcpCommand};
 use proof_run::{PROOF_ENTRY, ProofCommand};
+use rip_run::{RIP_ENTRY, RipCommand};
 use s2r_run::{S2R_ENTRY, S2rCommand};
+use scapin_run::{SCAPIN_ENTRY, ScapinCommand};
 use std::alloc::Global;
 use syf_run::{SYF_ENTRY, SyfCommand};
 use tool_words::{Entry, Words, WordsError, is_same, read_asked};
@@ -40,6 +44,10 @@ pub enum Command {
     Proof(ProofCommand),
     Flatbeh(FlatbehCommand),
     S2r(S2rCommand),
+    Scapin(ScapinCommand),
+    Fmi(FmiCommand),
+    Rip(RipCommand),
+    Area(AreaCommand),
 }
 
 const ENTRIES: &[Entry] = &[
@@ -58,6 +66,10 @@ const ENTRIES: &[Entry] = &[
     PROOF_ENTRY,
     FLATBEH_ENTRY,
     S2R_ENTRY,
+    SCAPIN_ENTRY,
+    FMI_ENTRY,
+    RIP_ENTRY,
+    AREA_ENTRY,
 ];
 
 /// How all tools are called, in the order of the usage line.
@@ -110,6 +122,18 @@ fn read_behind(alloc: Global, tool: &[u8], words: &[Text]) -> Result<Command, Wo
     }
     if is_same(b"s2r", tool) {
         return Ok(Command::S2r(read_asked(alloc, S2R_ENTRY, words)?));
+    }
+    if is_same(b"scapin", tool) {
+        return Ok(Command::Scapin(read_asked(alloc, SCAPIN_ENTRY, words)?));
+    }
+    if is_same(b"fmi", tool) {
+        return Ok(Command::Fmi(read_asked(alloc, FMI_ENTRY, words)?));
+    }
+    if is_same(b"rip", tool) {
+        return Ok(Command::Rip(read_asked(alloc, RIP_ENTRY, words)?));
+    }
+    if is_same(b"area", tool) {
+        return Ok(Command::Area(read_asked(alloc, AREA_ENTRY, words)?));
     }
     Err(WordsError::Usage)
 }

@@ -1,12 +1,14 @@
 //! Tests of single calls that no run of a tool shows: what a text is cut into, a reader's small calls, orders and rings, values and
 //! sizes of expressions, bits that diagrams pick, gaps, rectangles of pins, numbers, what lists give back, a state machine that is
-//! written, and the shelves and sinks by themselves.
+//! written, states that become one and the tests of the others, and the shelves and sinks by themselves.
 #![tactic(auto)]
 
 #[cfg(test)]
 mod diagrams;
 #[cfg(test)]
 mod expressions;
+#[cfg(test)]
+mod fewest;
 #[cfg(test)]
 mod gaps;
 #[cfg(test)]

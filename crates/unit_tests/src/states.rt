@@ -1,4 +1,4 @@
-// A state machine that is written: no tool writes one yet.
+// A state machine that is written, in the layout of its text.
 use fsm_io::read_fsm;
 use fsm_print::{fsm_can_be_written, write_fsm};
 use std::alloc::Global;

@@ -1,4 +1,4 @@
-use Rattle.std.proofs.Common.{◌≡◌, ◌+◌, ℕ, List, take, ap, sym, subst, ◌∙◌}
+use Rattle.std.proofs.Common.{◌+◌, take, ap, sym, subst, ◌∙◌}
 use Rattle.boog_cuts.proofs.Growing.{is_number}
 use Rattle.boog_tree.specs.Joined.{IsGrownBy}
 use Rattle.boog_tree.proofs.Joining.{grown_more, grown_same}

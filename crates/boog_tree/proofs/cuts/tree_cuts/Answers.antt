@@ -1,13 +1,12 @@
-use Rattle.std.proofs.Common.{◌≡◌, ◌<◌, ◌-◌, ℕ, List, map, length, refl, ap, sym, subst, ◌∙◌, arith}
-use Rattle.graph_theory.specs.Graph.{fixed, inv, nand}
+use Rattle.std.proofs.Common.{List, length, sym, subst}
+use Rattle.graph_theory.specs.Graph.{inv, nand}
 use Rattle.subject_table.specs.declared.table.Node.TheVariants as kind
 use Rattle.cell_match.specs.declared.cut.Cut.{Cut}
 use Rattle.boog_cuts.proofs.Growing.{list_at}
-use Rattle.boog_tree.specs.Trees.{IsNode}
 use Rattle.boog_tree.specs.Cuts.{AreTreeCuts, AreOnce}
 use Rattle.boog_tree.specs.Joined.{AreInverses, AreJoined}
 use Rattle.boog_tree.proofs.Within.{reads_below}
-use Rattle.boog_tree.proofs.Making.{fixed_has_none, given_has_none, inverses_are_cuts, joined_are_cuts, parts_once}
+use Rattle.boog_tree.proofs.Making.{fixed_has_none, inverses_are_cuts, joined_are_cuts, parts_once}
 use Rattle.boog_tree.proofs.Placing.{node_at, ok_by}
 use Rattle.boog_tree.proofs.cuts.tree_cuts.Goals as goal
 

@@ -1,10 +1,8 @@
-use Rattle.std.proofs.Common.{◌≡◌, ◌+◌, ◌<◌, ℕ, false, List, map, take, get_or, length, arith}
-use Prim.Native.Nat.{suc}
+use Rattle.std.proofs.Common.{false, map, get_or, arith}
 use Rattle.subject_table.specs.View.{node_view}
 use Rattle.subject_table.specs.declared.table.Node.TheVariants as kind
 use Rattle.boog_cuts.proofs.Growing.{number_map}
 use Rattle.boog_cuts.proofs.Whole.{read_number}
-use Rattle.boog_tree.specs.Trees.{pins, pin_uses}
 use Rattle.boog_tree.proofs.Open.{uses_part}
 use Rattle.boog_tree.proofs.Counting.{uses_next}
 use Rattle.boog_tree.proofs.inner.count_pins.Goals as goal

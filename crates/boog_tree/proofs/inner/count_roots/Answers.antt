@@ -1,4 +1,4 @@
-use Rattle.std.proofs.Common.{◌≡◌, ◌+◌, ◌<◌, ℕ, List, length, min, ap, sym, subst, arith}
+use Rattle.std.proofs.Common.{ℕ, List, ap, arith}
 use Rattle.cell_match.specs.Places.{times}
 use Rattle.boog_tree.proofs.inner.count_roots.Goals as goal
 

@@ -1,5 +1,4 @@
-use Rattle.std.proofs.Common.{◌≡◌, ◌<◌, ℕ, List, [], ◌∷◌, ◌++◌, length, take, get_or, sym, subst, arith}
-use Rattle.net_theory.specs.Sources.{IsNumber}
+use Rattle.std.proofs.Common.{ℕ, List, [], ◌∷◌, take, get_or, sym, subst, arith}
 use Rattle.cell_match.proofs.Numbers.{times_some}
 use Rattle.boog_cuts.proofs.Whole.{take_one_more, read_number}
 use Rattle.boog_tree.specs.Counted.{IsRaised}

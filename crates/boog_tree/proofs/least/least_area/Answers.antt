@@ -1,6 +1,3 @@
-use Rattle.std.proofs.Common.{◌≡◌, ℕ, List, Option, ap, sym, subst, ◌∙◌}
-use Rattle.boog_tree.specs.Counted.{AreInner}
-use Rattle.cell_match.specs.declared.gate.Gate.{Gate}
 use Rattle.boog_tree.proofs.Covering.{picks_cover}
 use Rattle.boog_tree.proofs.least.least_area.Goals as goal
 

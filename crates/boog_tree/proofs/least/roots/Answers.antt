@@ -1,7 +1,7 @@
 use Rattle.std.proofs.Common.{◌≡◌, ℕ, Bool, not, ◌&&◌, List, [], ◌∷◌, ◌++◌, filter, ap, ap₂, sym, ◌∙◌}
 use Rattle.std.specs.List.{range_with_len}
 use Rattle.graph_theory.specs.Graph.{Node}
-use Rattle.boog_tree.specs.Trees.{is_gate, is_inner, is_root}
+use Rattle.boog_tree.specs.Trees.{is_gate, is_root}
 use Rattle.boog_tree.proofs.Roots.{filter_more, kept_yes, kept_no}
 use Rattle.boog_tree.proofs.least.roots.Goals as goal
 use Rattle.boog_tree.proofs.least.roots.Goals.{then-is_root+in_ok-push, else-is_root}

@@ -1,4 +1,4 @@
-use Rattle.std.proofs.Common.{◌≡◌, ◌+◌, ◌<◌, ◌≤◌, ℕ, List, length, slice_index, Option, sym, subst, arith}
+use Rattle.std.proofs.Common.{◌+◌, slice_index, Option, sym, subst, arith}
 use Rattle.bool_expr.specs.Expression.{bit}
 use Rattle.boog_cuts.proofs.Growing.{is_number}
 use Rattle.boog_tree.specs.declared.pick.Pick.{Pick}

@@ -1,4 +1,4 @@
-use Rattle.std.proofs.Common.{◌≡◌, ◌<◌, ℕ, List, length, get_or, subst, arith}
+use Rattle.std.proofs.Common.{◌<◌, ℕ, List, get_or, subst}
 use Rattle.cell_match.specs.Places.{times}
 use Rattle.cell_match.proofs.Numbers.{times_some}
 use Rattle.boog_tree.proofs.pick.cost_of.Goals as goal

@@ -1,4 +1,4 @@
-use Rattle.std.proofs.Common.{true, Err, sym, subst, arith, refl}
+use Rattle.std.proofs.Common.{true, Err, sym, subst, refl}
 use Rattle.vst_io.specs.Text.{IsVstRefusal}
 use Rattle.tool_drive.specs.Refusals.{refused_file}
 use Rattle.tool_drive.specs.declared.tool.Refusal.{Refusal}
@@ -6,7 +6,8 @@ use Rattle.tool_drive.specs.Table.{IsJudged}
 use Rattle.machine_core.specs.Checked.{IsChecked}
 use Rattle.vst_laws.proofs.Supplies.{lists_supplies}
 use Rattle.flatbeh_run.specs.Flatbeh.{bad_netlist, Flattens}
-use Rattle.flatbeh_run.proofs.Refusing.{by_flat, by_names, by_clock}
+use Rattle.flatbeh_run.proofs.Refusing.{by_flat, by_clock, not_too_many}
+use Rattle.flatbeh_run.proofs.FewBits.{names_few}
 use Rattle.flatbeh_run.proofs.flatbeh.flattened.Goals as goal
 
 pub returns-in-Err : goal.returns-in-Err
@@ -24,24 +25,28 @@ returns-in-Err-flatbeh c = λ catal cells library.
     (by_flat c.args.command.now c.args.source.now catal cells c.args.library.now c.in_ok-table.table library c.in_ok-table.ensures.table c.in-Ok.netlist
     c.in-Ok.ensures.accepted c.in-Err-flatbeh.error c.flat_status.result c.in-Err-flatbeh.ensures.refused c.flat_status.ensures)
 
-pub returns-then-names-from : goal.returns-then-names-from
-returns-then-names-from c = λ catal cells library.
-    subst (λ (r : Refusal). IsJudged (Flattens c.args.command.now c.args.source.now catal cells) (Err r)) (sym c.plain-then-names-from.ensures)
-    (by_names c.args.command.now c.args.source.now catal cells c.args.library.now c.in_ok-table.table library c.in_ok-table.ensures.table c.in-Ok.netlist
-    c.in-Ok.ensures.accepted c.in-Ok-flatbeh.machine c.in-Ok-flatbeh.ensures.plain c.in-Ok-flatbeh.ensures.apart c.in-Ok-flatbeh.ensures.few
-    (c.in-Ok-flatbeh.ensures.machine c.in_ok-table.table c.in_ok-table.ensures.table (c.in-Ok.ensures.condition (lists_supplies c.args.library.now true c.in_ok-table.table c.in_ok-table.ensures.table)))
-    c.in-Ok-flatbeh.ensures.numbered (omega (arith, c.names_count-names.ensures, c.if-names-from.true, c.from.ensures)) c.names_count-names.result c.too_many.result c.names_count-names.ensures c.too_many.ensures)
+pub flat_status-requires : goal.flat_status-requires
+flat_status-requires c =
+    not_too_many c.in-Ok.netlist c.args.library.now
+    (c.netlist_has_few_bits.ensures c.requires.0 c.args.source.now c.requires.1 c.args.library.now c.in_ok-table.table c.in-Ok.netlist c.requires.2 c.in_ok-table.ensures.table
+    c.in-Ok.ensures.accepted (c.in-Ok.ensures.condition (lists_supplies c.args.library.now true c.in_ok-table.table c.in_ok-table.ensures.table)))
+    c.in-Err-flatbeh.error c.in-Err-flatbeh.ensures.refused
 
 pub product-requires-clause-few : goal.product-requires-clause-few
-product-requires-clause-few c = omega (arith, c.names_count-names.ensures, c.if-names-from.false, c.from.ensures)
+product-requires-clause-few c =
+    let met = c.in-Ok.ensures.condition (lists_supplies c.args.library.now true c.in_ok-table.table c.in_ok-table.ensures.table) in
+    names_few c.in-Ok.netlist c.args.library.now c.in_ok-table.table c.in-Ok-flatbeh.machine
+    (c.netlist_has_few_bits.ensures c.requires.0 c.args.source.now c.requires.1 c.args.library.now c.in_ok-table.table c.in-Ok.netlist c.requires.2 c.in_ok-table.ensures.table
+    c.in-Ok.ensures.accepted met c.in-Ok-flatbeh.ensures.plain)
+    (c.in-Ok-flatbeh.ensures.machine c.in_ok-table.table c.in_ok-table.ensures.table met) c.in-Ok-flatbeh.ensures.numbered
 
 pub returns-in-Some : goal.returns-in-Some
 returns-in-Some c = λ catal cells library.
     subst (λ (r : Refusal). IsJudged (Flattens c.args.command.now c.args.source.now catal cells) (Err r)) (sym c.plain-in-Some.ensures)
     (by_clock c.args.command.now c.args.source.now catal cells c.args.library.now c.in_ok-table.table library c.in_ok-table.ensures.table c.in-Ok.netlist
-    c.in-Ok.ensures.accepted c.in-Ok-flatbeh.machine c.in-Ok-flatbeh.ensures.plain c.in-Ok-flatbeh.ensures.apart c.in-Ok-flatbeh.ensures.few
+    c.in-Ok.ensures.accepted c.in-Ok-flatbeh.machine c.in-Ok-flatbeh.ensures.plain c.in-Ok-flatbeh.ensures.apart
     (c.in-Ok-flatbeh.ensures.machine c.in_ok-table.table c.in_ok-table.ensures.table (c.in-Ok.ensures.condition (lists_supplies c.args.library.now true c.in_ok-table.table c.in_ok-table.ensures.table)))
-    (omega (arith, c.names_count-names.ensures, c.if-names-from.false, c.from.ensures)) c.in-Some.name.now c.clock_status.result c.in-Some.ensures c.clock_status.ensures)
+    c.in-Some.name.now c.clock_status.result c.in-Some.ensures c.clock_status.ensures)
 
 pub returns : goal.returns
 returns c = λ catal cells library. record {
@@ -52,11 +57,9 @@ returns c = λ catal cells library. record {
   read = record { library = library; pins = c.in_ok-table.ensures.table; netlist = c.in-Ok.ensures.accepted };
   plain = c.in-Ok-flatbeh.ensures.plain;
   apart = c.in-Ok-flatbeh.ensures.apart;
-  few = c.in-Ok-flatbeh.ensures.few;
   flat = c.in-Ok-flatbeh.ensures.machine c.in_ok-table.table c.in_ok-table.ensures.table
       (c.in-Ok.ensures.condition (lists_supplies c.args.library.now true c.in_ok-table.table c.in_ok-table.ensures.table));
   numbered = c.in-Ok-flatbeh.ensures.numbered;
-  countable = omega (arith, c.names_count-names.ensures, c.if-names-from.false, c.from.ensures);
   checked = subst IsChecked c.machine.view_is c.machine.invariant;
   names = c.in-Ok-flatbeh.ensures.text (c.netlist_has_words.ensures c.args.source.now c.in_ok-table.table c.in-Ok.netlist c.in-Ok.ensures.accepted) c.in_default.ensures;
   written = c.in_ok-written.ensures;

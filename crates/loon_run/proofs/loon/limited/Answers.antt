@@ -5,7 +5,7 @@ use Rattle.tool_drive.specs.declared.tool.Refusal.{Refusal}
 use Rattle.tool_drive.specs.Table.{IsJudged}
 use Rattle.loon_run.specs.Loon.{bad_netlist, Limits}
 use Rattle.vst_laws.proofs.Supplies.{lists_supplies}
-use Rattle.loon_run.proofs.Refusing.{by_room, by_drive}
+use Rattle.loon_run.proofs.Refusing.{by_drive}
 use Rattle.loon_run.proofs.loon.limited.Goals as goal
 
 pub returns-in-Err : goal.returns-in-Err
@@ -13,22 +13,21 @@ returns-in-Err c = λ catal cells library.
     refused_file (Limits c.args.command.now c.args.source.now catal cells) c.args.command.now.source (IsVstRefusal c.args.source.now c.in_ok-table.table) c.in-Err.error c.refused.result c.plain.result c.in-Err.ensures.refused
     c.refused.ensures c.plain.ensures (λ o. (refl, bad_netlist c.args.library.now c.in_ok-table.table library c.in_ok-table.ensures.table o))
 
-pub returns-in-Err-check_room : goal.returns-in-Err-check_room
-returns-in-Err-check_room c = λ catal cells library.
-    subst (λ (r : Refusal). IsJudged (Limits c.args.command.now c.args.source.now catal cells) (Err r)) (sym c.plain-in-Err-check_room.ensures)
-    (by_room c.args.command.now c.args.source.now catal cells c.args.library.now c.in_ok-table.table library c.in_ok-table.ensures.table c.in-Ok.netlist
-    c.in-Ok.ensures.accepted c.in-Err-check_room.full c.in-Err-check_room.ensures.full)
-
 pub driven-requires-clause-drivable : goal.driven-requires-clause-drivable
 driven-requires-clause-drivable c =
     c.loon_law.ensures.drivable c.requires.0 c.requires.1 c.args.library.now c.in_ok-table.table c.in-Ok.netlist c.requires.2 c.in_ok-table.ensures.table
     c.in-Ok.ensures.accepted.netlist.sound (c.in-Ok.ensures.condition (lists_supplies c.args.library.now false c.in_ok-table.table c.in_ok-table.ensures.table))
 
+pub driven-requires-clause-room : goal.driven-requires-clause-room
+driven-requires-clause-room c =
+    c.loon_law.ensures.room c.requires.0 c.args.source.now c.requires.1 c.args.library.now c.in_ok-table.table c.in-Ok.netlist c.requires.2 c.in_ok-table.ensures.table
+    c.in-Ok.ensures.accepted (c.in-Ok.ensures.condition (lists_supplies c.args.library.now false c.in_ok-table.table c.in_ok-table.ensures.table))
+
 pub returns-in-Err-driven : goal.returns-in-Err-driven
 returns-in-Err-driven c = λ catal cells library.
     subst (λ (r : Refusal). IsJudged (Limits c.args.command.now c.args.source.now catal cells) (Err r)) (sym c.plain-in-Err-driven.ensures)
     (by_drive c.args.command.now c.args.source.now catal cells c.args.library.now c.in_ok-table.table library c.in_ok-table.ensures.table c.in-Ok.netlist
-    c.in-Ok.ensures.accepted c.in_default.ensures.room c.in-Err-driven.error c.drive_status.result c.in-Err-driven.ensures.refused c.drive_status.ensures)
+    c.in-Ok.ensures.accepted c.in-Err-driven.error c.drive_status.result c.in-Err-driven.ensures.refused c.drive_status.ensures)
 
 pub product-requires : goal.product-requires
 product-requires c =
@@ -43,7 +42,6 @@ returns c = λ catal cells library. record {
   table = c.in_ok-table.table;
   n = c.in-Ok.netlist;
   read = record { library = library; pins = c.in_ok-table.ensures.table; netlist = c.in-Ok.ensures.accepted };
-  room = c.in_default.ensures.room;
   k = c.in-Ok-driven.driven.netlist;
   delay = c.in-Ok-driven.driven.delay;
   sound = c.in-Ok-driven.ensures.sound;

@@ -1,12 +1,8 @@
-use Rattle.std.proofs.Common.{◌≡◌, ℕ, ◌*◌, ◌-◌, ◌<◌, ◌≤◌, length, ap, ◌∙◌, arith}
-use Rattle.std.proofs.Math.Nat.{le-mul_of_pos_right}
+use Rattle.std.proofs.Common.{◌≡◌, ◌*◌, ◌-◌, ◌≤◌, length, ap, ◌∙◌, arith}
 use Rattle.maze_nets.specs.declared.points.NetPoints.{NetPoints}
 use Rattle.std.specs.Prelude.{List}
+use Rattle.maze_probe.proofs.Few.{few_nets}
 use Rattle.maze_probe.proofs.answer.print.Goals as goal
-
-few_nets : (nets pins plane layers : ℕ) → 0 < pins → 0 < layers → nets * pins ≤ plane → plane * layers < 4294967295 → nets < 4294967295
-few_nets nets pins plane layers some high room few =
-    omega (arith, le-mul_of_pos_right {m = pins} nets some, le-mul_of_pos_right {m = layers} plane high)
 
 pub route_nets-requires-clause-few : goal.route_nets-requires-clause-few
 route_nets-requires-clause-few g c =

@@ -5,9 +5,9 @@ use Rattle.nero_maze.proofs.frontier.expand.Goals as goal
 
 pub loop-at-preserved : goal.loop-at-preserved
 loop-at-preserved c =
-    let g = c.args.room.now.grid in
-    let o = c.args.room.now.owners.items in
-    let t = c.args.net in
+    let g = c.args.field.now.grid in
+    let o = c.args.field.now.words.now.items in
+    let t = c.args.field.now.net in
     let ord = c.args.frontier.now.order.items in
     let m = c.args.frontier.now.marks.items in
     let n = c.args.frontier.now.count in

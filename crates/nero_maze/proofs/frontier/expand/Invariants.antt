@@ -5,10 +5,10 @@ use Rattle.nero_maze.proofs.frontier.expand.Given as goal
 
 abbrev pub invariant-loop-at : goal.invariant-loop-at
 invariant-loop-at l = record {
-  size : length l.frontier.marks.items ≡ nodes l.room.grid;
+  size : length l.frontier.marks.items ≡ nodes l.field.grid;
   kept : Kept l.frontier.order.items l.frontier.marks.items l.frontier.count;
-  grown : Grown l.room.grid l.room.owners.items l.net l.fn.span.from l.fn.span.to l.way (l.way + 2)
+  grown : Grown l.field.grid l.field.words.now.items l.field.net l.fn.span.from l.fn.span.to l.way (l.way + 2)
       l.fn.frontier.order.items l.fn.frontier.marks.items l.fn.frontier.count l.frontier.order.items l.frontier.marks.items l.frontier.count;
   spread : (j k : ℕ) → l.fn.span.from ≤ j → j < l.at → l.way ≤ k → k < l.way + 2
-      → IsSpread l.room.grid l.room.owners.items l.net l.fn.frontier.order.items l.frontier.marks.items j k;
+      → IsSpread l.field.grid l.field.words.now.items l.field.net l.fn.frontier.order.items l.frontier.marks.items j k;
 }

@@ -24,7 +24,7 @@ loop-vias-init c =
         | inl e ↦ rw (e, five) (omega arith)
         | inr ne ↦ (let none = get_or-set_other m z v 5 0 ne ∙ c.requires.clear v in omega arith)
       ];
-      searched = begun g c.args.room.now.owners.items c.args.net z (slice_set ord 0 z) (slice_set m z 5) kept (get_or-set_same ord 0 z 0 some) five;
+      searched = begun g c.args.words.now.items c.args.net z (slice_set ord 0 z) (slice_set m z 5) kept (get_or-set_same ord 0 z 0 some) five;
       unmarked = λ v own. elim (cases_eq v z) [
         | inl e ↦ absurd (c.requires.outside (rw e at own))
         | inr ne ↦ get_or-set_other m z v 5 0 ne ∙ c.requires.clear v
@@ -39,7 +39,7 @@ settle-requires-clause-live c =
     let inv = c.loop-vias.invariant in
     let e1 = c.expand.ensures in
     let e2 = c.expand-in-loop-vias.ensures in
-    live c.args.room.now.grid c.args.room.now.owners.items c.args.net c.args.target
+    live c.args.room.now.grid c.args.words.now.items c.args.net c.args.target
     f0.order.items f0.marks.items f1.order.items f1.marks.items f2.order.items f2.marks.items
     c.loop-vias.vias c.loop-vias.vias_end c.loop-vias.steps c.loop-vias.cost f0.count f1.count f2.count inv.searched inv.flat e1.grown e2.grown e2.kept
 
@@ -51,7 +51,7 @@ settle-requires-clause-settled c =
     let inv = c.loop-vias.invariant in
     let e1 = c.expand.ensures in
     let e2 = c.expand-in-loop-vias.ensures in
-    older_low c.args.room.now.grid c.args.room.now.owners.items c.args.net c.args.target
+    older_low c.args.room.now.grid c.args.words.now.items c.args.net c.args.target
     f0.order.items f0.marks.items f1.order.items f1.marks.items f2.order.items f2.marks.items
     c.loop-vias.vias c.loop-vias.vias_end c.loop-vias.steps c.loop-vias.cost f0.count f1.count f2.count inv.searched inv.flat e1.grown e2.grown e2.kept
 
@@ -68,7 +68,7 @@ loop-vias-preserved c =
     record {
       size = e3.size ∙ e2.size;
       flat = λ v. let e = e3.marks v in omega arith;
-      searched = next_level c.args.room.now.grid c.args.room.now.owners.items c.args.net c.args.target
+      searched = next_level c.args.room.now.grid c.args.words.now.items c.args.net c.args.target
           f0.order.items f0.marks.items f1.order.items f1.marks.items f2.order.items f2.marks.items
           c.loop-vias.vias c.loop-vias.vias_end c.loop-vias.steps c.loop-vias.cost f0.count f1.count f2.count
           inv.searched inv.flat e1.grown e2.grown e2.kept f3.order.items f3.marks.items f3.count e3.order e3.count
@@ -92,7 +92,7 @@ loop-vias-preserved c =
 pub returns-in-Some-clause-trace : goal.returns-in-Some-clause-trace
 returns-in-Some-clause-trace c =
     let g = c.args.room.now.grid in
-    let o = c.args.room.now.owners.items in
+    let o = c.args.words.now.items in
     let t = c.args.net in
     let s = c.args.target in
     let d = c.loop-vias.cost in
@@ -125,6 +125,6 @@ pub returns-clause-none : goal.returns-clause-none
 returns-clause-none c = λ v back e own p.
     let inv = c.loop-vias.invariant in
     let h = inv.searched in
-    closed c.args.room.now.grid c.args.room.now.owners.items c.args.net c.args.target c.loop-vias.frontier.order.items c.loop-vias.frontier.marks.items
+    closed c.args.room.now.grid c.args.words.now.items c.args.net c.args.target c.loop-vias.frontier.order.items c.loop-vias.frontier.marks.items
     c.loop-vias.vias c.loop-vias.vias_end c.loop-vias.steps c.loop-vias.cost c.loop-vias.frontier.count
     h.first c.loop-vias-test.false h.in_b h.in_c h.kept.found h.settled h.all v back e p (inv.unmarked v own)

@@ -7,7 +7,7 @@ use Rattle.nero_maze.proofs.search.search.Given as goal
 abbrev pub invariant-loop-vias : goal.invariant-loop-vias
 invariant-loop-vias l = record {
   size : length l.frontier.marks.items ≡ nodes l.room.grid;
-  searched : Searched l.room.grid l.room.owners.items l.net l.target l.frontier.order.items l.frontier.marks.items l.vias l.vias_end l.steps l.cost l.frontier.count;
+  searched : Searched l.room.grid l.words.items l.net l.target l.frontier.order.items l.frontier.marks.items l.vias l.vias_end l.steps l.cost l.frontier.count;
   flat : (v : ℕ) → slice_index l.frontier.marks.items v < 8;
   unmarked : (v : ℕ) → IsOwn l.room.owners.items l.room.links.items l.net v → slice_index l.frontier.marks.items v ≡ 0;
 }

@@ -21,17 +21,17 @@ loop-k-preserved c =
     let shape_is : (d : Shape) → c.index-shapes-k-in-loop-k.result ≡ get_or shapes k d =
     λ d. read_at shapes k d c.index-shapes-k-in-loop-k.result within c.index-shapes-k-in-loop-k.is in
     let first : (d : Shape) → c.index-shapes-k.result ≡ get_or shapes k d = λ d. read_at shapes k d c.index-shapes-k.result within c.index-shapes-k.is in
-    let last : (d : Shape) → IsEntered (cut_for cuts (get_or shapes k d)) gap (get_or shapes k d) k news = λ d.
+    let last : (d : Shape) → IsEntered c.args.turned (cut_for cuts (get_or shapes k d)) gap (get_or shapes k d) k news = λ d.
     let metal_is : c.metal.result ≡ (get_or shapes k d).metal = c.metal.ensures ∙ ap (λ (s : Shape). s.metal) (first d) in
-    subst (λ (s : Shape). IsEntered (cut_for cuts (get_or shapes k d)) gap s k news) (shape_is d)
-    (subst (λ (m : ℕ). IsEntered (get_or cuts m uncut) gap c.index-shapes-k-in-loop-k.result k news) metal_is c.in_ok-enter.ensures.entered) in
+    subst (λ (s : Shape). IsEntered c.args.turned (cut_for cuts (get_or shapes k d)) gap s k news) (shape_is d)
+    (subst (λ (m : ℕ). IsEntered c.args.turned (get_or cuts m uncut) gap c.index-shapes-k-in-loop-k.result k news) metal_is c.in_ok-enter.ensures.entered) in
     record {
       places = places_on (length shapes) k c.loop-k.entries.items news adds within c.loop-k.invariant.places;
       entered = λ j d hj low. elim (cases_lt j k) [
-        | inl lt ↦ kept_entered (cut_for cuts (get_or shapes j d)) gap (get_or shapes j d) j k c.loop-k.entries.items news adds (c.loop-k.invariant.entered j d hj lt)
+        | inl lt ↦ kept_entered c.args.turned (cut_for cuts (get_or shapes j d)) gap (get_or shapes j d) j k c.loop-k.entries.items news adds (c.loop-k.invariant.entered j d hj lt)
         | inr ge ↦
             let e : k ≡ j = omega arith in
-            subst (λ (x : ℕ). IsEntered (cut_for cuts (get_or shapes x d)) gap (get_or shapes x d) x news) e (last d)
+            subst (λ (x : ℕ). IsEntered c.args.turned (cut_for cuts (get_or shapes x d)) gap (get_or shapes x d) x news) e (last d)
       ];
     }
 

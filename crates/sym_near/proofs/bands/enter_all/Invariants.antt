@@ -9,5 +9,5 @@ abbrev pub invariant-loop-k : goal.invariant-loop-k
 invariant-loop-k l = record {
   places : (e : Entry) → Contains l.entries.items e → e.place < length l.shapes;
   entered : (j : ℕ) (d : Shape) → j < length l.shapes → j < l.k
-      → IsEntered (cut_for l.cuts (get_or l.shapes j d)) l.gap (get_or l.shapes j d) j l.entries.items;
+      → IsEntered l.turned (cut_for l.cuts (get_or l.shapes j d)) l.gap (get_or l.shapes j d) j l.entries.items;
 }

@@ -1,8 +1,8 @@
-use Rattle.std.proofs.Common.{◌-◌, ◌<◌, ◌≤◌, length}
+use Rattle.std.proofs.Common.{◌-◌, ◌≤◌, length}
 use Rattle.sym_near.proofs.sweep.run_end.Given as goal
 
 abbrev pub invariant-loop-end : goal.invariant-loop-end
-invariant-loop-end l = record { after : l.p < l.end; within : l.end ≤ length l.entries }
+invariant-loop-end l = record { after : l.start ≤ l.end; within : l.end ≤ length l.entries }
 
 abbrev pub decreases-loop-end : goal.decreases-loop-end
 decreases-loop-end l = length l.entries - l.end

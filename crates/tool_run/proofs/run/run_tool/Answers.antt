@@ -69,3 +69,23 @@ pub returns-in-S2r-clause-line : goal.returns-in-S2r-clause-line
 returns-in-S2r-clause-line g c lined =
     subst (λ (k : Command). IsLine (g.T.Sink.seen c.args.out.now) (g.T.Sink.seen c.drive-in-S2r.new.out) (line_of (word_of k) c.drive-in-S2r.result)) (sym c.in-S2r.is)
     (c.drive-in-S2r.ensures.line lined)
+
+pub returns-in-Scapin-clause-line : goal.returns-in-Scapin-clause-line
+returns-in-Scapin-clause-line g c lined =
+    subst (λ (k : Command). IsLine (g.T.Sink.seen c.args.out.now) (g.T.Sink.seen c.drive-in-Scapin.new.out) (line_of (word_of k) c.drive-in-Scapin.result)) (sym c.in-Scapin.is)
+    (c.drive-in-Scapin.ensures.line lined)
+
+pub returns-in-Fmi-clause-line : goal.returns-in-Fmi-clause-line
+returns-in-Fmi-clause-line g c lined =
+    subst (λ (k : Command). IsLine (g.T.Sink.seen c.args.out.now) (g.T.Sink.seen c.drive-in-Fmi.new.out) (line_of (word_of k) c.drive-in-Fmi.result)) (sym c.in-Fmi.is)
+    (c.drive-in-Fmi.ensures.line lined)
+
+pub returns-in-Rip-clause-line : goal.returns-in-Rip-clause-line
+returns-in-Rip-clause-line g c lined =
+    subst (λ (k : Command). IsLine (g.T.Sink.seen c.args.out.now) (g.T.Sink.seen c.drive-in-Rip.new.out) (line_of (word_of k) c.drive-in-Rip.result)) (sym c.in-Rip.is)
+    (c.drive-in-Rip.ensures.line lined)
+
+pub returns-in-Area-clause-line : goal.returns-in-Area-clause-line
+returns-in-Area-clause-line g c lined =
+    subst (λ (k : Command). IsLine (g.T.Sink.seen c.args.out.now) (g.T.Sink.seen c.drive-in-Area.new.out) (line_of (word_of k) c.drive-in-Area.result)) (sym c.in-Area.is)
+    (c.drive-in-Area.ensures.line lined)

@@ -13,16 +13,44 @@ use Rattle.druc_run.specs.Words.{druc, druc_from}
 use Rattle.proof_run.specs.Words.{proof, proof_from}
 use Rattle.flatbeh_run.specs.Words.{flatbeh, flatbeh_from}
 use Rattle.s2r_run.specs.Words.{s2r, s2r_from}
+use Rattle.scapin_run.specs.Words.{scapin, scapin_from}
+use Rattle.fmi_run.specs.Words.{fmi, fmi_from}
+use Rattle.rip_run.specs.Words.{rip, rip_from}
+use Rattle.area_run.specs.Words.{area, area_from}
 use Rattle.tool_run.specs.declared.words.Command.{Command}
 use Rattle.tool_run.specs.declared.words.Command.TheVariants as command
 use Rattle.tool_run.proofs.Finding.{behind}
 use Rattle.tool_run.proofs.words.read_behind.Goals as goal
 
+abbrev area_tool : Tool Command
+area_tool = tool area command.Area area_from
+
+abbrev from_area : List (Tool Command)
+from_area = area_tool ∷ []
+
+abbrev rip_tool : Tool Command
+rip_tool = tool rip command.Rip rip_from
+
+abbrev from_rip : List (Tool Command)
+from_rip = rip_tool ∷ from_area
+
+abbrev fmi_tool : Tool Command
+fmi_tool = tool fmi command.Fmi fmi_from
+
+abbrev from_fmi : List (Tool Command)
+from_fmi = fmi_tool ∷ from_rip
+
+abbrev scapin_tool : Tool Command
+scapin_tool = tool scapin command.Scapin scapin_from
+
+abbrev from_scapin : List (Tool Command)
+from_scapin = scapin_tool ∷ from_fmi
+
 abbrev s2r_tool : Tool Command
 s2r_tool = tool s2r command.S2r s2r_from
 
 abbrev from_s2r : List (Tool Command)
-from_s2r = s2r_tool ∷ []
+from_s2r = s2r_tool ∷ from_scapin
 
 abbrev flatbeh_tool : Tool Command
 flatbeh_tool = tool flatbeh command.Flatbeh flatbeh_from
@@ -239,12 +267,60 @@ returns-then-is_same-12-clause-ok c =
 
 pub returns-in_err-read_asked-13-clause-usage : goal.returns-in_err-read_asked-13-clause-usage
 returns-in_err-read_asked-13-clause-usage c usage =
-    behind c.args.tool.now c.args.words.now (syf_tool ∷ boom_tool ∷ boog_tool ∷ loon_tool ∷ ocp_tool ∷ nero_tool ∷ asimut_tool ∷ cougar_tool ∷ lvx_tool ∷ druc_tool ∷ proof_tool ∷ flatbeh_tool ∷ []) s2r_tool [] None
+    behind c.args.tool.now c.args.words.now (syf_tool ∷ boom_tool ∷ boog_tool ∷ loon_tool ∷ ocp_tool ∷ nero_tool ∷ asimut_tool ∷ cougar_tool ∷ lvx_tool ∷ druc_tool ∷ proof_tool ∷ flatbeh_tool ∷ []) s2r_tool from_scapin None
     (sym c.is_same.ensures ∙ c.if-is_same.false, (sym c.is_same-2.ensures ∙ c.if-is_same-2.false, (sym c.is_same-3.ensures ∙ c.if-is_same-3.false, (sym c.is_same-4.ensures ∙ c.if-is_same-4.false, (sym c.is_same-5.ensures ∙ c.if-is_same-5.false, (sym c.is_same-6.ensures ∙ c.if-is_same-6.false, (sym c.is_same-7.ensures ∙ c.if-is_same-7.false, (sym c.is_same-8.ensures ∙ c.if-is_same-8.false, (sym c.is_same-9.ensures ∙ c.if-is_same-9.false, (sym c.is_same-10.ensures ∙ c.if-is_same-10.false, (sym c.is_same-11.ensures ∙ c.if-is_same-11.false, (sym c.is_same-12.ensures ∙ c.if-is_same-12.false, tt))))))))))))
     (sym c.is_same-13.ensures ∙ c.if-is_same-13.true) (ap (option_map command.S2r) (c.in_err-read_asked-13.ensures.usage (search rules)))
 
 pub returns-then-is_same-13-clause-ok : goal.returns-then-is_same-13-clause-ok
 returns-then-is_same-13-clause-ok c =
-    behind c.args.tool.now c.args.words.now (syf_tool ∷ boom_tool ∷ boog_tool ∷ loon_tool ∷ ocp_tool ∷ nero_tool ∷ asimut_tool ∷ cougar_tool ∷ lvx_tool ∷ druc_tool ∷ proof_tool ∷ flatbeh_tool ∷ []) s2r_tool []
+    behind c.args.tool.now c.args.words.now (syf_tool ∷ boom_tool ∷ boog_tool ∷ loon_tool ∷ ocp_tool ∷ nero_tool ∷ asimut_tool ∷ cougar_tool ∷ lvx_tool ∷ druc_tool ∷ proof_tool ∷ flatbeh_tool ∷ []) s2r_tool from_scapin
     (Some (command.S2r c.in_ok-read_asked-13.field-0)) (sym c.is_same.ensures ∙ c.if-is_same.false, (sym c.is_same-2.ensures ∙ c.if-is_same-2.false, (sym c.is_same-3.ensures ∙ c.if-is_same-3.false, (sym c.is_same-4.ensures ∙ c.if-is_same-4.false, (sym c.is_same-5.ensures ∙ c.if-is_same-5.false, (sym c.is_same-6.ensures ∙ c.if-is_same-6.false, (sym c.is_same-7.ensures ∙ c.if-is_same-7.false, (sym c.is_same-8.ensures ∙ c.if-is_same-8.false, (sym c.is_same-9.ensures ∙ c.if-is_same-9.false, (sym c.is_same-10.ensures ∙ c.if-is_same-10.false, (sym c.is_same-11.ensures ∙ c.if-is_same-11.false, (sym c.is_same-12.ensures ∙ c.if-is_same-12.false, tt))))))))))))
     (sym c.is_same-13.ensures ∙ c.if-is_same-13.true) (ap (option_map command.S2r) c.in_ok-read_asked-13.ensures.ok)
+
+pub returns-in_err-read_asked-14-clause-usage : goal.returns-in_err-read_asked-14-clause-usage
+returns-in_err-read_asked-14-clause-usage c usage =
+    behind c.args.tool.now c.args.words.now (syf_tool ∷ boom_tool ∷ boog_tool ∷ loon_tool ∷ ocp_tool ∷ nero_tool ∷ asimut_tool ∷ cougar_tool ∷ lvx_tool ∷ druc_tool ∷ proof_tool ∷ flatbeh_tool ∷ s2r_tool ∷ []) scapin_tool from_fmi None
+    (sym c.is_same.ensures ∙ c.if-is_same.false, (sym c.is_same-2.ensures ∙ c.if-is_same-2.false, (sym c.is_same-3.ensures ∙ c.if-is_same-3.false, (sym c.is_same-4.ensures ∙ c.if-is_same-4.false, (sym c.is_same-5.ensures ∙ c.if-is_same-5.false, (sym c.is_same-6.ensures ∙ c.if-is_same-6.false, (sym c.is_same-7.ensures ∙ c.if-is_same-7.false, (sym c.is_same-8.ensures ∙ c.if-is_same-8.false, (sym c.is_same-9.ensures ∙ c.if-is_same-9.false, (sym c.is_same-10.ensures ∙ c.if-is_same-10.false, (sym c.is_same-11.ensures ∙ c.if-is_same-11.false, (sym c.is_same-12.ensures ∙ c.if-is_same-12.false, (sym c.is_same-13.ensures ∙ c.if-is_same-13.false, tt)))))))))))))
+    (sym c.is_same-14.ensures ∙ c.if-is_same-14.true) (ap (option_map command.Scapin) (c.in_err-read_asked-14.ensures.usage (search rules)))
+
+pub returns-then-is_same-14-clause-ok : goal.returns-then-is_same-14-clause-ok
+returns-then-is_same-14-clause-ok c =
+    behind c.args.tool.now c.args.words.now (syf_tool ∷ boom_tool ∷ boog_tool ∷ loon_tool ∷ ocp_tool ∷ nero_tool ∷ asimut_tool ∷ cougar_tool ∷ lvx_tool ∷ druc_tool ∷ proof_tool ∷ flatbeh_tool ∷ s2r_tool ∷ []) scapin_tool from_fmi
+    (Some (command.Scapin c.in_ok-read_asked-14.field-0)) (sym c.is_same.ensures ∙ c.if-is_same.false, (sym c.is_same-2.ensures ∙ c.if-is_same-2.false, (sym c.is_same-3.ensures ∙ c.if-is_same-3.false, (sym c.is_same-4.ensures ∙ c.if-is_same-4.false, (sym c.is_same-5.ensures ∙ c.if-is_same-5.false, (sym c.is_same-6.ensures ∙ c.if-is_same-6.false, (sym c.is_same-7.ensures ∙ c.if-is_same-7.false, (sym c.is_same-8.ensures ∙ c.if-is_same-8.false, (sym c.is_same-9.ensures ∙ c.if-is_same-9.false, (sym c.is_same-10.ensures ∙ c.if-is_same-10.false, (sym c.is_same-11.ensures ∙ c.if-is_same-11.false, (sym c.is_same-12.ensures ∙ c.if-is_same-12.false, (sym c.is_same-13.ensures ∙ c.if-is_same-13.false, tt)))))))))))))
+    (sym c.is_same-14.ensures ∙ c.if-is_same-14.true) (ap (option_map command.Scapin) c.in_ok-read_asked-14.ensures.ok)
+
+pub returns-in_err-read_asked-15-clause-usage : goal.returns-in_err-read_asked-15-clause-usage
+returns-in_err-read_asked-15-clause-usage c usage =
+    behind c.args.tool.now c.args.words.now (syf_tool ∷ boom_tool ∷ boog_tool ∷ loon_tool ∷ ocp_tool ∷ nero_tool ∷ asimut_tool ∷ cougar_tool ∷ lvx_tool ∷ druc_tool ∷ proof_tool ∷ flatbeh_tool ∷ s2r_tool ∷ scapin_tool ∷ []) fmi_tool from_rip None
+    (sym c.is_same.ensures ∙ c.if-is_same.false, (sym c.is_same-2.ensures ∙ c.if-is_same-2.false, (sym c.is_same-3.ensures ∙ c.if-is_same-3.false, (sym c.is_same-4.ensures ∙ c.if-is_same-4.false, (sym c.is_same-5.ensures ∙ c.if-is_same-5.false, (sym c.is_same-6.ensures ∙ c.if-is_same-6.false, (sym c.is_same-7.ensures ∙ c.if-is_same-7.false, (sym c.is_same-8.ensures ∙ c.if-is_same-8.false, (sym c.is_same-9.ensures ∙ c.if-is_same-9.false, (sym c.is_same-10.ensures ∙ c.if-is_same-10.false, (sym c.is_same-11.ensures ∙ c.if-is_same-11.false, (sym c.is_same-12.ensures ∙ c.if-is_same-12.false, (sym c.is_same-13.ensures ∙ c.if-is_same-13.false, (sym c.is_same-14.ensures ∙ c.if-is_same-14.false, tt))))))))))))))
+    (sym c.is_same-15.ensures ∙ c.if-is_same-15.true) (ap (option_map command.Fmi) (c.in_err-read_asked-15.ensures.usage (search rules)))
+
+pub returns-then-is_same-15-clause-ok : goal.returns-then-is_same-15-clause-ok
+returns-then-is_same-15-clause-ok c =
+    behind c.args.tool.now c.args.words.now (syf_tool ∷ boom_tool ∷ boog_tool ∷ loon_tool ∷ ocp_tool ∷ nero_tool ∷ asimut_tool ∷ cougar_tool ∷ lvx_tool ∷ druc_tool ∷ proof_tool ∷ flatbeh_tool ∷ s2r_tool ∷ scapin_tool ∷ []) fmi_tool from_rip
+    (Some (command.Fmi c.in_ok-read_asked-15.field-0)) (sym c.is_same.ensures ∙ c.if-is_same.false, (sym c.is_same-2.ensures ∙ c.if-is_same-2.false, (sym c.is_same-3.ensures ∙ c.if-is_same-3.false, (sym c.is_same-4.ensures ∙ c.if-is_same-4.false, (sym c.is_same-5.ensures ∙ c.if-is_same-5.false, (sym c.is_same-6.ensures ∙ c.if-is_same-6.false, (sym c.is_same-7.ensures ∙ c.if-is_same-7.false, (sym c.is_same-8.ensures ∙ c.if-is_same-8.false, (sym c.is_same-9.ensures ∙ c.if-is_same-9.false, (sym c.is_same-10.ensures ∙ c.if-is_same-10.false, (sym c.is_same-11.ensures ∙ c.if-is_same-11.false, (sym c.is_same-12.ensures ∙ c.if-is_same-12.false, (sym c.is_same-13.ensures ∙ c.if-is_same-13.false, (sym c.is_same-14.ensures ∙ c.if-is_same-14.false, tt))))))))))))))
+    (sym c.is_same-15.ensures ∙ c.if-is_same-15.true) (ap (option_map command.Fmi) c.in_ok-read_asked-15.ensures.ok)
+
+pub returns-in_err-read_asked-16-clause-usage : goal.returns-in_err-read_asked-16-clause-usage
+returns-in_err-read_asked-16-clause-usage c usage =
+    behind c.args.tool.now c.args.words.now (syf_tool ∷ boom_tool ∷ boog_tool ∷ loon_tool ∷ ocp_tool ∷ nero_tool ∷ asimut_tool ∷ cougar_tool ∷ lvx_tool ∷ druc_tool ∷ proof_tool ∷ flatbeh_tool ∷ s2r_tool ∷ scapin_tool ∷ fmi_tool ∷ []) rip_tool from_area None
+    (sym c.is_same.ensures ∙ c.if-is_same.false, (sym c.is_same-2.ensures ∙ c.if-is_same-2.false, (sym c.is_same-3.ensures ∙ c.if-is_same-3.false, (sym c.is_same-4.ensures ∙ c.if-is_same-4.false, (sym c.is_same-5.ensures ∙ c.if-is_same-5.false, (sym c.is_same-6.ensures ∙ c.if-is_same-6.false, (sym c.is_same-7.ensures ∙ c.if-is_same-7.false, (sym c.is_same-8.ensures ∙ c.if-is_same-8.false, (sym c.is_same-9.ensures ∙ c.if-is_same-9.false, (sym c.is_same-10.ensures ∙ c.if-is_same-10.false, (sym c.is_same-11.ensures ∙ c.if-is_same-11.false, (sym c.is_same-12.ensures ∙ c.if-is_same-12.false, (sym c.is_same-13.ensures ∙ c.if-is_same-13.false, (sym c.is_same-14.ensures ∙ c.if-is_same-14.false, (sym c.is_same-15.ensures ∙ c.if-is_same-15.false, tt)))))))))))))))
+    (sym c.is_same-16.ensures ∙ c.if-is_same-16.true) (ap (option_map command.Rip) (c.in_err-read_asked-16.ensures.usage (search rules)))
+
+pub returns-then-is_same-16-clause-ok : goal.returns-then-is_same-16-clause-ok
+returns-then-is_same-16-clause-ok c =
+    behind c.args.tool.now c.args.words.now (syf_tool ∷ boom_tool ∷ boog_tool ∷ loon_tool ∷ ocp_tool ∷ nero_tool ∷ asimut_tool ∷ cougar_tool ∷ lvx_tool ∷ druc_tool ∷ proof_tool ∷ flatbeh_tool ∷ s2r_tool ∷ scapin_tool ∷ fmi_tool ∷ []) rip_tool from_area
+    (Some (command.Rip c.in_ok-read_asked-16.field-0)) (sym c.is_same.ensures ∙ c.if-is_same.false, (sym c.is_same-2.ensures ∙ c.if-is_same-2.false, (sym c.is_same-3.ensures ∙ c.if-is_same-3.false, (sym c.is_same-4.ensures ∙ c.if-is_same-4.false, (sym c.is_same-5.ensures ∙ c.if-is_same-5.false, (sym c.is_same-6.ensures ∙ c.if-is_same-6.false, (sym c.is_same-7.ensures ∙ c.if-is_same-7.false, (sym c.is_same-8.ensures ∙ c.if-is_same-8.false, (sym c.is_same-9.ensures ∙ c.if-is_same-9.false, (sym c.is_same-10.ensures ∙ c.if-is_same-10.false, (sym c.is_same-11.ensures ∙ c.if-is_same-11.false, (sym c.is_same-12.ensures ∙ c.if-is_same-12.false, (sym c.is_same-13.ensures ∙ c.if-is_same-13.false, (sym c.is_same-14.ensures ∙ c.if-is_same-14.false, (sym c.is_same-15.ensures ∙ c.if-is_same-15.false, tt)))))))))))))))
+    (sym c.is_same-16.ensures ∙ c.if-is_same-16.true) (ap (option_map command.Rip) c.in_ok-read_asked-16.ensures.ok)
+
+pub returns-in_err-read_asked-17-clause-usage : goal.returns-in_err-read_asked-17-clause-usage
+returns-in_err-read_asked-17-clause-usage c usage =
+    behind c.args.tool.now c.args.words.now (syf_tool ∷ boom_tool ∷ boog_tool ∷ loon_tool ∷ ocp_tool ∷ nero_tool ∷ asimut_tool ∷ cougar_tool ∷ lvx_tool ∷ druc_tool ∷ proof_tool ∷ flatbeh_tool ∷ s2r_tool ∷ scapin_tool ∷ fmi_tool ∷ rip_tool ∷ []) area_tool [] None
+    (sym c.is_same.ensures ∙ c.if-is_same.false, (sym c.is_same-2.ensures ∙ c.if-is_same-2.false, (sym c.is_same-3.ensures ∙ c.if-is_same-3.false, (sym c.is_same-4.ensures ∙ c.if-is_same-4.false, (sym c.is_same-5.ensures ∙ c.if-is_same-5.false, (sym c.is_same-6.ensures ∙ c.if-is_same-6.false, (sym c.is_same-7.ensures ∙ c.if-is_same-7.false, (sym c.is_same-8.ensures ∙ c.if-is_same-8.false, (sym c.is_same-9.ensures ∙ c.if-is_same-9.false, (sym c.is_same-10.ensures ∙ c.if-is_same-10.false, (sym c.is_same-11.ensures ∙ c.if-is_same-11.false, (sym c.is_same-12.ensures ∙ c.if-is_same-12.false, (sym c.is_same-13.ensures ∙ c.if-is_same-13.false, (sym c.is_same-14.ensures ∙ c.if-is_same-14.false, (sym c.is_same-15.ensures ∙ c.if-is_same-15.false, (sym c.is_same-16.ensures ∙ c.if-is_same-16.false, tt))))))))))))))))
+    (sym c.is_same-17.ensures ∙ c.if-is_same-17.true) (ap (option_map command.Area) (c.in_err-read_asked-17.ensures.usage (search rules)))
+
+pub returns-then-is_same-17-clause-ok : goal.returns-then-is_same-17-clause-ok
+returns-then-is_same-17-clause-ok c =
+    behind c.args.tool.now c.args.words.now (syf_tool ∷ boom_tool ∷ boog_tool ∷ loon_tool ∷ ocp_tool ∷ nero_tool ∷ asimut_tool ∷ cougar_tool ∷ lvx_tool ∷ druc_tool ∷ proof_tool ∷ flatbeh_tool ∷ s2r_tool ∷ scapin_tool ∷ fmi_tool ∷ rip_tool ∷ []) area_tool []
+    (Some (command.Area c.in_ok-read_asked-17.field-0)) (sym c.is_same.ensures ∙ c.if-is_same.false, (sym c.is_same-2.ensures ∙ c.if-is_same-2.false, (sym c.is_same-3.ensures ∙ c.if-is_same-3.false, (sym c.is_same-4.ensures ∙ c.if-is_same-4.false, (sym c.is_same-5.ensures ∙ c.if-is_same-5.false, (sym c.is_same-6.ensures ∙ c.if-is_same-6.false, (sym c.is_same-7.ensures ∙ c.if-is_same-7.false, (sym c.is_same-8.ensures ∙ c.if-is_same-8.false, (sym c.is_same-9.ensures ∙ c.if-is_same-9.false, (sym c.is_same-10.ensures ∙ c.if-is_same-10.false, (sym c.is_same-11.ensures ∙ c.if-is_same-11.false, (sym c.is_same-12.ensures ∙ c.if-is_same-12.false, (sym c.is_same-13.ensures ∙ c.if-is_same-13.false, (sym c.is_same-14.ensures ∙ c.if-is_same-14.false, (sym c.is_same-15.ensures ∙ c.if-is_same-15.false, (sym c.is_same-16.ensures ∙ c.if-is_same-16.false, tt))))))))))))))))
+    (sym c.is_same-17.ensures ∙ c.if-is_same-17.true) (ap (option_map command.Area) c.in_ok-read_asked-17.ensures.ok)

@@ -1,4 +1,4 @@
-use Rattle.std.proofs.Common.{◌≡◌, [], ℕ, length, ap, sym, subst, ◌∙◌, arith, if◌then◌else◌}
+use Rattle.std.proofs.Common.{◌≡◌, [], ℕ, length, subst, arith, if◌then◌else◌}
 use Rattle.bool_expr.specs.Expression.{bit}
 use Rattle.boog_tree.specs.Joined.{HasItself}
 use Rattle.boog_tree.proofs.least.Swept.add.Goals as goal

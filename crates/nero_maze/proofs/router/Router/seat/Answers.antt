@@ -15,7 +15,7 @@ invariant_of-self c =
     let small : c.args.net ≢ 4294967295 = omega arith in
     let e = c.root.ensures in
     (seated c.self.inside.board c.root.new.board c.args.net c.args.node c.self.invariant small none free e.grid
-    (rw c.number_of-at.ensures.number at e.owners) (rw c.number_of-at.ensures.number at e.links) (rw c.number_of-at.ensures.number at e.log) e.frontier).0
+    (rw c.number_of-at.ensures.number at e.owners) (rw c.number_of-at.ensures.number at e.links) (rw c.number_of-at.ensures.number at e.log) e.frontier e.reserved).0
 
 pub returns : goal.returns
 returns c =
@@ -24,4 +24,4 @@ returns c =
     let small : c.args.net ≢ 4294967295 = omega arith in
     let e = c.root.ensures in
     rw (← c.self.view_is) (seated c.self.inside.board c.root.new.board c.args.net c.args.node c.self.invariant small none free e.grid
-    (rw c.number_of-at.ensures.number at e.owners) (rw c.number_of-at.ensures.number at e.links) (rw c.number_of-at.ensures.number at e.log) e.frontier).1
+    (rw c.number_of-at.ensures.number at e.owners) (rw c.number_of-at.ensures.number at e.links) (rw c.number_of-at.ensures.number at e.log) e.frontier e.reserved).1

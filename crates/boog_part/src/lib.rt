@@ -1,0 +1,7 @@
+//! The part of a subject graph that its outputs and registers need.
+#![tactic(auto)]
+
+mod marks;
+mod part;
+
+pub use part::NeededPart;

@@ -1,0 +1,5 @@
+pub mod Vectors
+pub mod Moves
+pub mod Table
+pub mod Tests
+pub mod Refused

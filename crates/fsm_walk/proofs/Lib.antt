@@ -1,0 +1,6 @@
+pub mod Over
+mod Meeting
+pub mod Trailing
+pub mod Reading
+pub mod Wording
+pub mod Marking

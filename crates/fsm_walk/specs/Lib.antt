@@ -1,0 +1,4 @@
+pub mod Trail
+pub mod Step
+pub mod Reads
+pub mod Words

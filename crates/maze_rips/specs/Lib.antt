@@ -1,0 +1,4 @@
+pub mod Run
+pub mod Answers
+pub mod Progress
+pub mod Law

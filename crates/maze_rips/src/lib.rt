@@ -1,0 +1,13 @@
+//! The routes of all nets over a grid, where a net that is stuck has the paths torn out that block its way.
+#![tactic(auto)]
+
+mod error;
+mod law;
+mod rip;
+mod ripping;
+mod work;
+
+pub use error::RipError;
+pub use law::moves_keep_trees_apart;
+pub use rip::{PointRip, Ripped};
+pub use ripping::{route_nets_by, route_nets_with_rips};

@@ -1,0 +1,407 @@
+-- A net's paths are taken out of the arrays.
+use Rattle.std.proofs.Common.{ℕ, zero, suc, ◌≡◌, ◌≢◌, ◌+◌, ◌<◌, ◌≤◌, ◌⊎◌, inl, inr, List, [], ◌∷◌, map, length, Bool, true, false, Option, Some, None, slice_index, arith, sym, ◌∙◌, ap, refl, subst, nat_eq}
+use Rattle.std.specs.Prelude.{filter, cond}
+use Rattle.std.proofs.lemmas.Bool.{cases_eq, eq-eqb}
+use Rattle.vlsi_base.specs.Member.{In, here, there}
+use Rattle.grid_core.specs.declared.grid.Grid.{Grid}
+use Rattle.grid_core.specs.declared.grid.Node.{Node}
+use Rattle.grid_core.specs.Grid.{IsInGrid}
+use Rattle.grid_core.specs.Numbers.{nodes, number, node_of}
+use Rattle.grid_core.specs.Owners.{owner_in}
+use Rattle.grid_core.specs.Routes.{Tree, tree_nodes}
+use Rattle.grid_core.proofs.Numbers.{number-node_of, node_of-number, number_below}
+use Rattle.grid_core.proofs.Owners.{first_or}
+use Rattle.nero_maze.specs.declared.board.Board.{Board}
+use Rattle.nero_maze.specs.declared.frontier.Frontier.{Frontier}
+use Rattle.nero_maze.specs.declared.frontier.Room.{Room}
+use Rattle.nero_maze.specs.Ways.{next}
+use Rattle.nero_maze.specs.Search.{IsOwn, IsIdle}
+use Rattle.nero_maze.specs.Claims.{Told}
+use Rattle.nero_maze.specs.Routing.{Move, Began, Joined, routes_of, first_alone, TakesOut}
+use Rattle.nero_maze.specs.Board.{follow, move_at, moves_in, moves_of, routing_of, AreBegun, IsSound}
+use Rattle.nero_maze.specs.Ripping.{IsOnPath, IsFreed, entries, stays, IsShorter, IsTorn}
+use Rattle.nero_maze.proofs.Growth.{follow_told, test_other}
+use Rattle.nero_maze.proofs.Ties.{table}
+use Rattle.nero_maze.proofs.Sounds.{in_map, some_tree}
+use Rattle.nero_maze.proofs.Cutting.{keeps, Cut, cut, path_known, start_known, began_known}
+
+-- ---- the log by its entries
+moves_entries : (g : Grid) (o l m ord : List ℕ) (n : ℕ) → moves_in g o l m ord n ≡ map (move_at g o l m) (entries ord n)
+moves_entries g o l m ord zero = refl
+moves_entries g o l m ord (suc n) = ap (λ (ms : List Move). move_at g o l m (slice_index ord n) ∷ ms) (moves_entries g o l m ord n)
+
+pub entry_in : (ord : List ℕ) (n i : ℕ) → i < n → In (slice_index ord i) (entries ord n)
+entry_in ord zero i lt = let no : ⊥ = omega arith in absurd no
+entry_in ord (suc n) i lt = elim (cases_eq i n) [
+  | inl e ↦ subst (λ (k : ℕ). In (slice_index ord k) (entries ord (suc n))) (sym e) here
+  | inr ne ↦ there (entry_in ord n i (omega arith))
+]
+
+pub entry_at : (ord : List ℕ) (n v : ℕ) → In v (entries ord n) → (i : ℕ) × (i < n) × (slice_index ord i ≡ v)
+entry_at ord zero v h = elim h [ ]
+entry_at ord (suc n) v h = elim (first_or v (slice_index ord n) (entries ord n) h) [
+  | inl e ↦ (n, omega arith, sym e)
+  | inr j ↦ (let (i, lt, at) = entry_at ord n v j in (i, omega arith, at))
+]
+
+in_moves : (f : ℕ → Move) (vs : List ℕ) (v : ℕ) → In v vs → In (f v) (map f vs)
+in_moves f [] v h = elim h [ ]
+in_moves f (x ∷ xs) v here = here
+in_moves f (x ∷ xs) v (there h) = there (in_moves f xs v h)
+
+from_moves : (f : ℕ → Move) (vs : List ℕ) (m : Move) → In m (map f vs) → (v : ℕ) × In v vs × (f v ≡ m)
+from_moves f [] m h = elim h [ ]
+from_moves f (x ∷ xs) m here = (x, here, refl)
+from_moves f (x ∷ xs) m (there h) = let r = from_moves f xs m h in (r.0, there r.1, r.2)
+
+-- entries that stay are those whose moves do
+filter_moves : (f f' : ℕ → Move) (st : ℕ → Bool) (net : ℕ) (vs : List ℕ) → ((v : ℕ) → In v vs → keeps net (f v) ≡ st v) → ((v : ℕ) → In v vs → st v ≡ true → f' v ≡ f v)
+    → map f' (filter st vs) ≡ filter (keeps net) (map f vs)
+filter_moves f f' st net [] same kept = refl
+filter_moves f f' st net (v ∷ vs) same kept = by (st v) refl (filter_moves f f' st net vs (λ w i. same w (there i)) (λ w i. kept w (there i)))
+  where
+    by : (b : Bool) → st v ≡ b → map f' (filter st vs) ≡ filter (keeps net) (map f vs) → map f' (filter st (v ∷ vs)) ≡ filter (keeps net) (map f (v ∷ vs))
+    by true e rest =
+        let k = same v here ∙ e in
+        let m = kept v here e in
+        rw (e, k, m) (ap (λ (ms : List Move). f v ∷ ms) rest)
+    by false e rest =
+        let k = same v here ∙ e in
+        rw (e, k) rest
+
+-- ---- one net is torn out
+module _ (b b' : Board) (net : ℕ) (s : IsSound b) (h : IsTorn net b b') where
+  abbrev g : Grid
+  g = b.room.grid
+
+  abbrev o : List ℕ
+  o = b.room.owners.items
+
+  abbrev l : List ℕ
+  l = b.room.links.items
+
+  abbrev ms : List ℕ
+  ms = b.log.marks.items
+
+  abbrev ord : List ℕ
+  ord = b.log.order.items
+
+  abbrev o' : List ℕ
+  o' = b'.room.owners.items
+
+  abbrev l' : List ℕ
+  l' = b'.room.links.items
+
+  abbrev ms' : List ℕ
+  ms' = b'.log.marks.items
+
+  abbrev st : ℕ → Bool
+  st = stays net b.room
+
+  abbrev known : List ℕ
+  known = entries ord b.log.count
+
+  -- a node is on a path that goes, or not
+  on_path : (v : ℕ) → IsOnPath net b.room v ⊎ (IsOnPath net b.room v → ⊥)
+  on_path v = elim (cases_eq (slice_index l v) 0) [
+    | inl z ↦ inr (λ p. p.linked z)
+    | inr linked ↦ elim (cases_eq (slice_index l v) 9) [
+      | inl nine ↦ inr (λ p. p.joined nine)
+      | inr joined ↦ elim (cases_eq (slice_index o v) net) [
+        | inl own ↦ inl (record { linked = linked; joined = joined; own = own })
+        | inr other ↦ inr (λ p. other p.own)
+      ]
+    ]
+  ]
+
+  stays_other : (v : ℕ) → slice_index o v ≢ net → st v ≡ true
+  stays_other v ne = rw (test_other (slice_index o v) net ne) refl
+
+  stays_root : (v : ℕ) → slice_index l v ≡ 9 → st v ≡ true
+  stays_root v nine = elim (cases_eq (slice_index o v) net) [
+    | inl e ↦ rw (eq-eqb (slice_index o v) net e, eq-eqb (slice_index l v) 9 nine) refl
+    | inr ne ↦ stays_other v ne
+  ]
+
+  stays_not : (v : ℕ) → slice_index o v ≡ net → slice_index l v ≢ 9 → st v ≡ false
+  stays_not v own joined = rw (eq-eqb (slice_index o v) net own, test_other (slice_index l v) 9 joined) refl
+
+  -- what stays is another net's, or the root
+  other_or_root : (v : ℕ) → st v ≡ true → (slice_index o v ≢ net) ⊎ (slice_index l v ≡ 9)
+  other_or_root v is = elim (cases_eq (slice_index l v) 9) [
+    | inl nine ↦ inr nine
+    | inr joined ↦ elim (cases_eq (slice_index o v) net) [
+      | inl own ↦ (let no : ◌≡◌ {A = Bool} true false = sym is ∙ stays_not v own joined in absurd (cc no))
+      | inr ne ↦ inl ne
+    ]
+  ]
+
+  off_path : (v : ℕ) → (slice_index o v ≢ net) ⊎ (slice_index l v ≡ 9) → IsOnPath net b.room v → ⊥
+  off_path v (inl ne) p = ne p.own
+  off_path v (inr nine) p = p.joined nine
+
+  marked_stays : (v : ℕ) → slice_index ms' v ≢ 0 → st v ≡ true
+  marked_stays v some = by (st v) refl
+    where
+      by : (t : Bool) → st v ≡ t → st v ≡ true
+      by true e = e
+      by false e = absurd (some (h.log.gone v (λ is. (let no : ◌≡◌ {A = Bool} true false = sym is ∙ e in absurd (cc no)))))
+
+  -- the moves of the log
+  are : moves_of b ≡ map (move_at g o l ms) known
+  are = moves_entries g o l ms ord b.log.count
+
+  pub begun : AreBegun (map (move_at g o l ms) known)
+  begun = subst (λ (xs : List Move). AreBegun xs) are s.begun
+
+  known_mark : (v : ℕ) → In v known → slice_index ms v ≢ 0
+  known_mark v i = let (k, lt, at) = entry_at ord b.log.count v i in subst (λ (w : ℕ). slice_index ms w ≢ 0) at (s.log.marked k lt)
+
+  mark_known : (v : ℕ) → slice_index ms v ≢ 0 → In v known
+  mark_known v some = let (k, lt, at) = s.log.found v some in subst (λ (w : ℕ). In w known) at (entry_in ord b.log.count k lt)
+
+  -- all nodes of a path in the log have one owner
+  path_owner : (v : ℕ) → In v known → slice_index ms v ≢ 2 → slice_index l v ≢ 9 → (rest : List ℕ) → Told g l v rest → length rest ≤ nodes g
+      → (w : ℕ) → In w (v ∷ rest) → slice_index o w ≡ slice_index o v
+  path_owner v i not_two not_nine rest told short w iw =
+      let k = slice_index o v in
+      let follows = follow_told g l (nodes g) v rest told short in
+      let is : move_at g o l ms v ≡ Joined k (map (node_of g) (v ∷ rest)) =
+      rw (test_other (slice_index ms v) 2 not_two, test_other (slice_index l v) 9 not_nine, follows) refl in
+      let made = subst (λ (m : Move). In m (map (move_at g o l ms) known)) is (in_moves (move_at g o l ms) known v i) in
+      let inside = path_known (map (move_at g o l ms) known) begun k (map (node_of g) (v ∷ rest)) made (node_of g w) (in_map (node_of g) (v ∷ rest) w iw) in
+      let r = s.back k (node_of g w) (subst (λ (xs : List Move). In (node_of g w) (tree_nodes (routes_of xs k))) (sym are) inside) in
+      sym (ap (λ (x : ℕ). slice_index o x) (number-node_of g w)) ∙ r.1.1
+
+  -- so the path of another net is told as before
+  told_kept : (rest : List ℕ) (v : ℕ) → Told g l v rest → ((w : ℕ) → In w (v ∷ rest) → slice_index o w ≢ net) → Told g l' v rest
+  told_kept [] v t apart = absurd t
+  told_kept (p ∷ []) v (k, k4, link, is) apart = (k, k4, (h.freed.others v (off_path v (inl (apart v here)))).1 ∙ link, is)
+  told_kept (p ∷ r ∷ rest) v (k, k4, link, is, more) apart =
+      (k, k4, (h.freed.others v (off_path v (inl (apart v here)))).1 ∙ link, is, told_kept (r ∷ rest) p more (λ w i. apart w (there i)))
+
+  told_again : (v : ℕ) → In v known → slice_index o v ≢ net → slice_index ms v ≢ 2 → slice_index l v ≢ 9
+      → (rest : List ℕ) × Told g l v rest × Told g l' v rest × (length rest ≤ nodes g)
+  told_again v i other not_two not_nine =
+      let (rest, told, short) = s.told v (known_mark v i) not_two not_nine in
+      (rest, told, told_kept rest v told (λ w iw e. other (sym (path_owner v i not_two not_nine rest told short w iw) ∙ e)), short)
+
+  -- an entry that stays tells what it told
+  same_move : (v : ℕ) → In v known → st v ≡ true → move_at g o' l' ms' v ≡ move_at g o l ms v
+  same_move v i is =
+      let which = other_or_root v is in
+      let kept = h.freed.others v (off_path v which) in
+      let eo = kept.0 in
+      let el = kept.1 in
+      let em = h.log.same v is in
+      elim which [
+        | inr nine ↦ (let one = s.rooted v nine in let not_two : slice_index ms v ≢ 2 = omega arith in
+            rw (eo, em, el, test_other (slice_index ms v) 2 not_two, eq-eqb (slice_index l v) 9 nine) refl)
+        | inl other ↦ elim (cases_eq (slice_index ms v) 2) [
+          | inl two ↦ rw (eo, em, eq-eqb (slice_index ms v) 2 two) refl
+          | inr not_two ↦ elim (cases_eq (slice_index l v) 9) [
+            | inl nine ↦ rw (eo, em, el, test_other (slice_index ms v) 2 not_two, eq-eqb (slice_index l v) 9 nine) refl
+            | inr not_nine ↦ (
+                let (rest, told, again, short) = told_again v i other not_two not_nine in
+                let before = follow_told g l (nodes g) v rest told short in
+                let after = follow_told g l' (nodes g) v rest again short in
+                rw (eo, em, el, test_other (slice_index ms v) 2 not_two, test_other (slice_index l v) 9 not_nine, before, after) refl)
+          ]
+        ]
+      ]
+
+  -- and is one whose move stays
+  keeps_same : (v : ℕ) → In v known → keeps net (move_at g o l ms v) ≡ st v
+  keeps_same v i = elim (cases_eq (slice_index l v) 9) [
+    | inl nine ↦ (
+        let one = s.rooted v nine in
+        let not_two : slice_index ms v ≢ 2 = omega arith in
+        let told : move_at g o l ms v ≡ Began (slice_index o v) (node_of g v) = rw (test_other (slice_index ms v) 2 not_two, eq-eqb (slice_index l v) 9 nine) refl in
+        ap (keeps net) told ∙ sym (stays_root v nine))
+    | inr not_nine ↦ (
+        let lost : cond (nat_eq (slice_index o v) net) false true ≡ st v = rw (test_other (slice_index l v) 9 not_nine) refl in
+        elim (cases_eq (slice_index ms v) 2) [
+          | inl two ↦ (
+              let told : move_at g o l ms v ≡ Joined (slice_index o v) (node_of g v ∷ []) = rw (eq-eqb (slice_index ms v) 2 two) refl in
+              ap (keeps net) told ∙ lost)
+          | inr not_two ↦ (
+              let told : move_at g o l ms v ≡ Joined (slice_index o v) (map (node_of g) (v ∷ follow g l (nodes g) v)) =
+              rw (test_other (slice_index ms v) 2 not_two, test_other (slice_index l v) 9 not_nine) refl in
+              ap (keeps net) told ∙ lost)
+        ])
+  ]
+
+  left_moves : moves_of b' ≡ filter (keeps net) (map (move_at g o l ms) known)
+  left_moves =
+      ap (λ (k : Grid). moves_in k o' l' ms' b'.log.order.items b'.log.count) h.freed.grid
+      ∙ (moves_entries g o' l' ms' b'.log.order.items b'.log.count
+      ∙ (ap (map (move_at g o' l' ms')) h.log.entries ∙ filter_moves (move_at g o l ms) (move_at g o' l' ms') st net known keeps_same same_move))
+
+  cut_all : Cut net (map (move_at g o l ms) known) (filter (keeps net) (map (move_at g o l ms) known))
+  cut_all = cut net (map (move_at g o l ms) known) begun
+
+  pub other_tree : (k : ℕ) → k ≢ net → routes_of (moves_of b') k ≡ routes_of (moves_of b) k
+  other_tree k ne = ap (λ (xs : List Move). routes_of xs k) left_moves ∙ (cut_all.others k ne ∙ ap (λ (xs : List Move). routes_of xs k) (sym are))
+
+  pub own_tree : routes_of (moves_of b') net ≡ first_alone (routes_of (moves_of b) net)
+  own_tree = ap (λ (xs : List Move). routes_of xs net) left_moves ∙ (cut_all.alone ∙ ap (λ (xs : List Move). first_alone (routes_of xs net)) (sym are))
+
+  -- the net's root is where its tree began
+  root_start : (v : ℕ) → slice_index l v ≡ 9 → slice_index o v ≡ net → (t : Tree) → routes_of (moves_of b) net ≡ Some t → t.start ≡ node_of g v
+  root_start v nine own t is =
+      let one = s.rooted v nine in
+      let not_two : slice_index ms v ≢ 2 = omega arith in
+      let some : slice_index ms v ≢ 0 = omega arith in
+      let told : move_at g o l ms v ≡ Began net (node_of g v) = rw (test_other (slice_index ms v) 2 not_two, eq-eqb (slice_index l v) 9 nine, own) refl in
+      let made = subst (λ (m : Move). In m (map (move_at g o l ms) known)) told (in_moves (move_at g o l ms) known v (mark_known v some)) in
+      let (t', is', at) = start_known (map (move_at g o l ms) known) begun net (node_of g v) made in
+      let both : Some t ≡ Some t' = sym is ∙ (ap (λ (xs : List Move). routes_of xs net) are ∙ is') in
+      let same : t ≡ t' = cc both in
+      ap (λ (x : Tree). x.start) same ∙ at
+
+  start_root : (t : Tree) → routes_of (moves_of b) net ≡ Some t → slice_index l (number g t.start) ≡ 9
+  start_root t is =
+      let made = began_known (map (move_at g o l ms) known) net t (sym (ap (λ (xs : List Move). routes_of xs net) are) ∙ is) in
+      let (v, iv, told) = from_moves (move_at g o l ms) known (Began net t.start) made in
+      elim (cases_eq (slice_index ms v) 2) [
+        | inl two ↦ (
+            let no : Joined (slice_index o v) (node_of g v ∷ []) ≡ Began net t.start = rw (eq-eqb (slice_index ms v) 2 two) at told in
+            absurd (cc no))
+        | inr not_two ↦ elim (cases_eq (slice_index l v) 9) [
+          | inr not_nine ↦ (
+              let no : Joined (slice_index o v) (map (node_of g) (v ∷ follow g l (nodes g) v)) ≡ Began net t.start =
+              rw (test_other (slice_index ms v) 2 not_two, test_other (slice_index l v) 9 not_nine) at told in
+              absurd (cc no))
+          | inl nine ↦ (
+              let yes : Began (slice_index o v) (node_of g v) ≡ Began net t.start = rw (test_other (slice_index ms v) 2 not_two, eq-eqb (slice_index l v) 9 nine) at told in
+              let at : node_of g v ≡ t.start = cc yes in
+              ap (λ (w : ℕ). slice_index l w) (ap (number g) (sym at) ∙ number-node_of g v) ∙ nine)
+        ]
+      ]
+
+  linked_off : (v : ℕ) → slice_index l' v ≢ 0 → IsOnPath net b.room v → ⊥
+  linked_off v some p = some (h.freed.freed v p).1
+
+  forth' : (t : Tree) → routes_of (moves_of b) net ≡ Some t → (v : ℕ) → v < nodes g → slice_index l' v ≢ 0 → In (node_of g v) (tree_nodes (routes_of (moves_of b') (slice_index o' v)))
+  forth' t is v lt some =
+      let off = linked_off v some in
+      let kept = h.freed.others v off in
+      let was : slice_index l v ≢ 0 = λ z. some (kept.1 ∙ z) in
+      elim (cases_eq (slice_index o v) net) [
+        | inr ne ↦ (
+            let old = s.forth v lt was in
+            let new = subst (λ (o : Option Tree). In (node_of g v) (tree_nodes o)) (sym (other_tree (slice_index o v) ne)) old in
+            subst (λ (k : ℕ). In (node_of g v) (tree_nodes (routes_of (moves_of b') k))) (sym kept.0) new)
+        | inl own ↦ elim (cases_eq (slice_index l v) 9) [
+          | inr joined ↦ absurd (off (record { linked = was; joined = joined; own = own }))
+          | inl nine ↦ (
+              let at = root_start v nine own t is in
+              let alone : routes_of (moves_of b') net ≡ Some (record { start = t.start; paths = [] }) = own_tree ∙ ap first_alone is in
+              let first : In t.start (tree_nodes (routes_of (moves_of b') net)) = subst (λ (o : Option Tree). In t.start (tree_nodes o)) (sym alone) here in
+              let new = subst (λ (q : Node). In q (tree_nodes (routes_of (moves_of b') net))) at first in
+              subst (λ (k : ℕ). In (node_of g v) (tree_nodes (routes_of (moves_of b') k))) (sym (kept.0 ∙ own)) new)
+        ]
+      ]
+
+  back' : (t : Tree) → routes_of (moves_of b) net ≡ Some t → (k : ℕ) (q : Node) → In q (tree_nodes (routes_of (moves_of b') k)) → IsInGrid g q × IsOwn o' l' k (number g q)
+  back' t is k q i = elim (cases_eq k net) [
+    | inr ne ↦ (
+        let r = s.back k q (subst (λ (o : Option Tree). In q (tree_nodes o)) (other_tree k ne) i) in
+        let kept = h.freed.others (number g q) (off_path (number g q) (inl (λ e. ne (sym r.1.1 ∙ e)))) in
+        (r.0, ((λ z. r.1.0 (sym kept.1 ∙ z)), kept.0 ∙ r.1.1)))
+    | inl e ↦ (
+        let alone : routes_of (moves_of b') k ≡ Some (record { start = t.start; paths = [] }) = ap (routes_of (moves_of b')) e ∙ (own_tree ∙ ap first_alone is) in
+        let at : q ≡ t.start = elim (first_or q t.start [] (subst (λ (o : Option Tree). In q (tree_nodes o)) alone i)) [ inl same ↦ same | inr none ↦ elim none [ ] ] in
+        let first : In t.start (tree_nodes (routes_of (moves_of b) net)) = subst (λ (o : Option Tree). In t.start (tree_nodes o)) (sym is) here in
+        let r = s.back net q (subst (λ (n : Node). In n (tree_nodes (routes_of (moves_of b) net))) (sym at) first) in
+        let nine : slice_index l (number g q) ≡ 9 = ap (λ (n : Node). slice_index l (number g n)) at ∙ start_root t is in
+        let kept = h.freed.others (number g q) (off_path (number g q) (inr nine)) in
+        (r.0, ((λ z. r.1.0 (sym kept.1 ∙ z)), kept.0 ∙ (r.1.1 ∙ sym e))))
+  ]
+
+  pub torn_sound : routes_of (moves_of b) net ≢ None → IsSound b'
+  torn_sound some_now =
+      let (t, is) = some_tree (routes_of (moves_of b) net) some_now in
+      let eg = h.freed.grid in
+      let er : b'.reserved.items ≡ b.reserved.items = ap (λ r. r.items) h.reserved in
+      record {
+        room = h.freed.room;
+        idle =
+            let there_is : IsIdle b'.frontier.order.items b'.frontier.marks.items (nodes g) =
+            subst (λ (f : Frontier). IsIdle f.order.items f.marks.items (nodes g)) (sym h.frontier) s.idle in
+            subst (λ (k : Grid). IsIdle b'.frontier.order.items b'.frontier.marks.items (nodes k)) (sym eg) there_is;
+        log = h.log.kept;
+        logged = h.log.size ∙ (s.logged ∙ ap nodes (sym eg));
+        linked = λ v some.
+            let is' = marked_stays v some in
+            let kept = h.freed.others v (off_path v (other_or_root v is')) in
+            let was : slice_index ms v ≢ 0 = λ z. some (h.log.same v is' ∙ z) in
+            λ z. s.linked v was (sym kept.1 ∙ z);
+        owned = λ v some.
+            let kept = h.freed.others v (linked_off v some) in
+            λ e. s.owned v (λ z. some (kept.1 ∙ z)) (sym kept.0 ∙ e);
+        told = λ v some not_two not_nine.
+            let is' = marked_stays v some in
+            let which = other_or_root v is' in
+            let kept = h.freed.others v (off_path v which) in
+            let mark = h.log.same v is' in
+            let was : slice_index ms v ≢ 0 = λ z. some (mark ∙ z) in
+            let joined : slice_index l v ≢ 9 = λ nine. not_nine (kept.1 ∙ nine) in
+            let other : slice_index o v ≢ net = elim which [ inl ne ↦ ne | inr nine ↦ absurd (joined nine) ] in
+            let (rest, told, again, short) = told_again v (mark_known v was) other (λ two. not_two (mark ∙ two)) joined in
+            let again' : Told b'.room.grid l' v rest = subst (λ (k : Grid). Told k l' v rest) (sym eg) again in
+            let short' : length rest ≤ nodes b'.room.grid = subst (λ (k : Grid). length rest ≤ nodes k) (sym eg) short in
+            (rest, again', short');
+        forth = subst (λ (k : Grid). (v : ℕ) → v < nodes k → slice_index l' v ≢ 0 → In (node_of k v) (tree_nodes (routes_of (moves_of b') (slice_index o' v)))) (sym eg) (forth' t is);
+        back = subst (λ (k : Grid). (j : ℕ) (q : Node) → In q (tree_nodes (routes_of (moves_of b') j)) → IsInGrid k q × IsOwn o' l' j (number k q)) (sym eg) (back' t is);
+        begun = subst (λ (xs : List Move). AreBegun xs) (sym left_moves) cut_all.begun;
+        sized = ap (λ (xs : List ℕ). length xs) er ∙ (s.sized ∙ ap nodes (sym eg));
+        fixed = subst (λ (r : List ℕ). (v : ℕ) → slice_index r v ≢ 4294967295 → slice_index o' v ≡ slice_index r v) (sym er) (λ v fixed.
+            elim (on_path v) [ inl p ↦ (h.freed.freed v p).0 | inr off ↦ (h.freed.others v off).0 ∙ s.fixed v fixed ]);
+        untaken = subst (λ (r : List ℕ). (v : ℕ) → slice_index l' v ≡ 0 → slice_index o' v ≡ slice_index r v) (sym er) (λ v z.
+            elim (on_path v) [
+              | inl p ↦ (h.freed.freed v p).0
+              | inr off ↦ (let kept = h.freed.others v off in kept.0 ∙ s.untaken v (sym kept.1 ∙ z))
+            ]);
+        rooted = λ v nine.
+            let some : slice_index l' v ≢ 0 = omega arith in
+            let kept = h.freed.others v (linked_off v some) in
+            let was : slice_index l v ≡ 9 = sym kept.1 ∙ nine in
+            h.log.same v (stays_root v was) ∙ s.rooted v was;
+      }
+
+  pub taken_out : routes_of (moves_of b) net ≢ None → TakesOut net (routing_of b) (routing_of b')
+  taken_out some_now =
+      let (t, is) = some_tree (routes_of (moves_of b) net) some_now in
+      let eg = h.freed.grid in
+      record {
+        tree = own_tree;
+        trees = other_tree;
+        grid = eg;
+        left = λ p i out.
+            let v = number g p in
+            let r = s.back net p i in
+            let lt = number_below g p r.0 in
+            let at = node_of-number g p r.0 in
+            elim (on_path v) [
+              | inl on ↦ ap (λ (k : Grid). owner_in (slice_index o' (number k p))) eg ∙ ap owner_in (h.freed.freed v on).0
+              | inr off ↦ (
+                  let kept = h.freed.others v off in
+                  let linked : slice_index l' v ≢ 0 = λ z. r.1.0 (sym kept.1 ∙ z) in
+                  let inside = forth' t is v lt linked in
+                  let mine = subst (λ (k : ℕ). In (node_of g v) (tree_nodes (routes_of (moves_of b') k))) (kept.0 ∙ r.1.1) inside in
+                  absurd (out (subst (λ (n : Node). In n (tree_nodes (routes_of (moves_of b') net))) at mine)))
+            ];
+        stays = λ p hp keep.
+            let v = number g p in
+            let lt = number_below g p hp in
+            let at = node_of-number g p hp in
+            elim (on_path v) [
+              | inr off ↦ ap (λ (k : Grid). owner_in (slice_index o' (number k p))) eg ∙ ap owner_in (h.freed.others v off).0
+              | inl on ↦ (
+                  let old = subst (λ (k : ℕ). In (node_of g v) (tree_nodes (routes_of (moves_of b) k))) on.own (s.forth v lt on.linked) in
+                  let new = keep (subst (λ (n : Node). In n (tree_nodes (routes_of (moves_of b) net))) at old) in
+                  absurd ((back' t is net p new).1.0 (h.freed.freed v on).1))
+            ];
+        reserved = ap (λ (k : Grid). table k b'.reserved.items) eg ∙ ap (λ (xs : List ℕ). table g xs) (ap (λ r. r.items) h.reserved);
+      }

@@ -1,0 +1,2 @@
+pub mod Rips
+pub mod Answers

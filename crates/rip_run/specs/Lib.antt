@@ -1,0 +1,4 @@
+pub mod Asked
+pub mod Words
+pub mod RippedText
+pub mod Rip

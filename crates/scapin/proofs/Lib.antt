@@ -1,0 +1,9 @@
+pub mod Staged
+pub mod Numbers
+pub mod Moved
+pub mod Bounds
+pub mod Room
+pub mod Told
+pub mod Whole
+pub mod Stepping
+pub mod Supplied

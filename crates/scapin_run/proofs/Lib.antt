@@ -1,0 +1,4 @@
+pub mod Naming
+pub mod Rooms
+pub mod Placing
+pub mod Refusing

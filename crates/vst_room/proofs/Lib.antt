@@ -1,0 +1,5 @@
+mod Tokens
+mod Mapped
+mod Ports
+pub mod Cells
+mod Room
