@@ -1,6 +1,6 @@
 -- Statements over numbered ports, and over other numbers.
 use Rattle.std.specs.Prelude.{ℕ, List, map}
-use Rattle.bool_expr.specs.Expression.{Expression, variable, IsOver}
+use Rattle.bool_expr.specs.Expression.{variable, IsOver}
 use Rattle.fsm_machine.specs.Statements.{Assignment, output, next, Statements, finish, assign, choose, select, Parts, only, either, further, Branches, closed, others, listed}
 use Rattle.fsm_machine.specs.Moved.{moved, moved_parts, moved_branches}
 

@@ -4,3 +4,4 @@ pub mod Numbers
 pub mod Encoded
 pub mod Made
 pub mod Whole
+pub mod Targeted

@@ -27,7 +27,7 @@ up_more k n = rw (add-one n) (more k n) where
   more k zero = ap (λ (m : ℕ). m ∷ []) (omega arith)
   more k (suc n) = ap (λ (ms : List ℕ). k ∷ ms) (more (suc k) n ∙ ap (λ (m : ℕ). up (suc k) n ++ (m ∷ [])) (omega arith))
 
-map_behind : {A B : Type 0} (g : A → B) (xs ys : List A) → map g (xs ++ ys) ≡ map g xs ++ map g ys
+pub map_behind : {A B : Type 0} (g : A → B) (xs ys : List A) → map g (xs ++ ys) ≡ map g xs ++ map g ys
 map_behind g [] ys = refl
 map_behind {A} {B} g (x ∷ xs) ys = ap (λ (zs : List B). g x ∷ zs) (map_behind g xs ys)
 
@@ -61,7 +61,7 @@ named_behind [] ms (e ∷ es) fs l = absurd (omega arith)
 named_behind (n ∷ ns) ms [] fs l = absurd (omega arith)
 named_behind (n ∷ ns) ms (e ∷ es) fs l = ap (λ (xs : List Equation). record { name = n; expr = e } ∷ xs) (named_behind ns ms es fs (omega arith))
 
-named_map : (g : Name → Expression) (ns : List Name) → named ns (map g ns) ≡ map {B = Equation} (λ n. record { name = n; expr = g n }) ns
+pub named_map : (g : Name → Expression) (ns : List Name) → named ns (map g ns) ≡ map {B = Equation} (λ n. record { name = n; expr = g n }) ns
 named_map g [] = refl
 named_map g (n ∷ ns) = ap (λ (xs : List Equation). record { name = n; expr = g n } ∷ xs) (named_map g ns)
 

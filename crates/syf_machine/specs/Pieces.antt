@@ -1,10 +1,11 @@
 -- Equations and registers over statements whose signals have numbers.
-use Rattle.std.specs.Prelude.{ℕ, ◌+◌, not, true, false, List, ◌++◌, map, filter, length, None, Some}
+use Rattle.std.specs.Prelude.{ℕ, ◌+◌, not, true, false, List, [], ◌∷◌, ◌++◌, map, filter, length, Option, None, Some}
+use Prim.Native.Nat.{suc}
 use Rattle.vlsi_base.specs.declared.name.Name.{Name}
 use Rattle.vlsi_base.specs.declared.name.Port.{Port}
 use Rattle.bool_expr.specs.Expression.{Expression, constant}
 use Rattle.machine_core.specs.Machine.{Machine, Equation, Register, is_input, names_of}
-use Rattle.fsm_machine.specs.Statements.{Statements}
+use Rattle.fsm_machine.specs.Statements.{Statements, Assignment}
 use Rattle.fsm_machine.specs.Fsm.{Fsm}
 use Rattle.fsm_machine.specs.Codes.{Codes}
 use Rattle.fsm_machine.specs.Signals.{emitted, final}
@@ -17,6 +18,10 @@ abbrev pub inner_from : Codes → ℕ → Statements → List Expression
 inner_from c base body =
     map (at_state c base) (up 0 (length c.codes))
     ++ emitted (λ s. base + c.width + s) (up 0 (length c.codes)) None (base + c.width + length c.codes) body
+
+-- what the statements leave of so many targets, to which `given` tells what an assignment gives; all are 0 before them
+abbrev pub values_by : (ℕ → Assignment → Option Expression) → ℕ → Statements → ℕ → List Expression
+values_by given first body count = map (λ k. final (given k) None first body (constant false)) (up 0 count)
 
 -- an output and what the statements leave of it; their signals have numbers from `first` on
 abbrev pub output_of : ℕ → Statements → Name → Equation
@@ -32,6 +37,12 @@ equations_from c base ports body =
 abbrev pub register_of : Codes → ℕ → Statements → List ℕ → ℕ → Register
 register_of c first body text k =
     record { name = record { text = text; bit = Some k }; next = final (code_given c k) None first body (constant false); enable = constant true }
+
+-- the registers of the bits from k on, whose names have this text, and what they take
+abbrev pub registers_by : List ℕ → ℕ → List Expression → List Register
+registers_by text k [] = []
+registers_by text k (e ∷ es) =
+    record { name = record { text = text; bit = Some k }; next = e; enable = constant true } ∷ registers_by text (suc k) es
 
 -- the names of equations and of registers
 abbrev pub equated : List Equation → List Name

@@ -1,17 +1,18 @@
 // The machine of a state machine.
-ghost use Rattle.std.specs.Prelude.{◌≡◌, ◌<◌, ◌^◌, ◌+◌, ◌-◌, ◌++◌, None, false, length, map, IfOk, OnOk};
+ghost use Rattle.std.specs.Prelude.{◌≡◌, ◌<◌, ◌^◌, ◌+◌, ◌-◌, ◌++◌, false, length, map, All, IfOk};
 ghost use Rattle.bool_expr.specs.Expression.{constant};
 ghost use Rattle.bool_expr.specs.View.{view};
-ghost use Rattle.machine_core.specs.Checked.{IsChecked};
+ghost use Rattle.machine_core.specs.Checked.{IsChecked, AreInOrder};
+ghost use Rattle.machine_core.specs.Machine.{names_of};
 ghost use Rattle.machine_core.specs.View.{equation_view, register_view};
 ghost use Rattle.fsm_machine.specs.Codes.{AreCodes};
-ghost use Rattle.fsm_machine.specs.Signals.{final, signals};
+ghost use Rattle.fsm_machine.specs.Signals.{signals};
 ghost use Rattle.fsm_machine.specs.Sound.{IsSound};
 ghost use Rattle.fsm_machine.specs.MachineOf.{up, named};
 ghost use Rattle.fsm_code.specs.Over.{IsBodyOver, numbered_body};
-ghost use Rattle.fsm_code.specs.Sought.{given_to};
+ghost use Rattle.fsm_code.specs.Sought.{given_at, count_of, AreInTheirOrder};
 ghost use Rattle.fsm_code.specs.View.{body_view};
-ghost use Rattle.syf_machine.specs.Pieces.{equated, equations_from, machine_with, output_of, register_of, registered};
+ghost use Rattle.syf_machine.specs.Pieces.{equated, equations_from, machine_with, output_of, register_of, registers_by, registered, values_by};
 ghost use Rattle.syf_machine.specs.Named.{HasFewSignals, IsMachineOf, names_for};
 ghost use Rattle.syf_machine.specs.Meaning.{DoesAs};
 
@@ -19,7 +20,7 @@ use crate::inner::inner_expressions;
 use crate::law::machine_does_as;
 use crate::names::{copied, inner_names, inputs, outputs, port_numbers, register_text};
 use bool_expr::Expr;
-use fsm_code::{Codes, Place, Sought, Statements, Target};
+use fsm_code::{Codes, Place, Sought, Statements, Targets};
 use fsm_core::StateMachine;
 use fsm_machine::machine_is_ordered;
 use machine_core::{Equation, Machine, Register};
@@ -39,55 +40,45 @@ struct Body<'a> {
 }
 
 impl Body<'_> {
-    // What the statements leave of what is sought, which is 0 before them.
-    fn value_of(&self, target: Target<'_>) -> Result<Expr, AllocError>
+    // What the statements leave of so many targets, which are 0 before them.
+    fn values(&self, targets: Targets<'_>, count: usize) -> Result<Vec<Expr>, AllocError>
+        requires order { AreInTheirOrder targets }
+        requires count { count ≡ count_of targets }
         requires over { IsBodyOver (length self.now.numbers.now) (body_view self.now.statements.now) }
         requires room { self.now.first + signals (body_view self.now.statements.now) < 2 ^ 32 }
-        ensures { IfOk result (λ made. view made ≡ final (given_to target.entry) None self.now.first
-            (numbered_body self.now.numbers.now (body_view self.now.statements.now)) (constant false)) }
+        ensures { IfOk result (λ made. map view made.items ≡ values_by (given_at targets.entry) self.now.first
+            (numbered_body self.now.numbers.now (body_view self.now.statements.now)) count) }
     {
         let sought = Sought {
             alloc: self.alloc,
-            target,
+            targets,
             numbers: self.numbers,
         };
         let place = Place {
             path: None,
             next: self.first,
         };
-        let reached = sought.final_value(place, self.statements, Expr::Const(false))?;
-        Ok(reached.value)
+        let mut values = zeros(self.alloc, count)?;
+        sought.run(place, self.statements, &mut values)?;
+        Ok(values)
     }
 
     // An equation for each output.
-    fn push_outputs(&self, names: &[Name], out: &mut Vec<Equation>) -> Result<(), AllocError>
+    fn outputs(&self, names: &[Name]) -> Result<Vec<Equation>, AllocError>
+        requires order { AreInOrder names.now }
         requires over { IsBodyOver (length self.now.numbers.now) (body_view self.now.statements.now) }
         requires room { self.now.first + signals (body_view self.now.statements.now) < 2 ^ 32 }
-        ensures { OnOk result (map equation_view out.new.items ≡ map equation_view out.old.items
-            ++ map (output_of self.now.first (numbered_body self.now.numbers.now (body_view self.now.statements.now))) names.now) }
+        ensures { IfOk result (λ made. map equation_view made.items
+            ≡ map (output_of self.now.first (numbered_body self.now.numbers.now (body_view self.now.statements.now))) names.now) }
     {
-        for name in names {
-            out.push(self.output(name)?)?;
-        }
-        Ok(())
-    }
-
-    // The equation of an output.
-    fn output(&self, name: &Name) -> Result<Equation, AllocError>
-        requires over { IsBodyOver (length self.now.numbers.now) (body_view self.now.statements.now) }
-        requires room { self.now.first + signals (body_view self.now.statements.now) < 2 ^ 32 }
-        ensures { IfOk result (λ equation. equation_view equation
-            ≡ output_of self.now.first (numbered_body self.now.numbers.now (body_view self.now.statements.now)) name.now) }
-    {
-        let expr = self.value_of(Target::Output(name))?;
-        Ok(Equation {
-            name: name.copy(self.alloc)?,
-            expr,
-        })
+        let values = self.values(Targets::Outputs(names), names.len())?;
+        let made = equations(self.alloc, names, values)?;
+        Ok(made)
     }
 
     // An equation for each signal inside, and for each output.
     fn equations(&self, ports: &[Port], codes: &Codes) -> Result<Vec<Equation>, AllocError>
+        requires ports { AreInOrder (names_of ports.now) }
         requires codes { AreCodes (length codes.now.codes) codes.now }
         requires over { IsBodyOver (length self.now.numbers.now) (body_view self.now.statements.now) }
         requires base { self.now.first ≡ self.now.base + codes.now.width + length codes.now.codes }
@@ -98,7 +89,8 @@ impl Body<'_> {
     {
         let made = inner_expressions(self.alloc, codes, self.base, self.numbers, self.statements)?;
         let mut equations = inner_equations(self.alloc, ports, made)?;
-        self.push_outputs(&outputs(self.alloc, ports)?, &mut equations)?;
+        let mut outputs = self.outputs(&outputs(self.alloc, ports)?)?;
+        equations.append(&mut outputs)?;
         Ok(equations)
     }
 
@@ -109,31 +101,42 @@ impl Body<'_> {
         ensures { IfOk result (λ registers. map register_view registers.items ≡ map (register_of codes.now self.now.first
             (numbered_body self.now.numbers.now (body_view self.now.statements.now)) text.now) (up 0 codes.now.width)) }
     {
-        let mut registers = Vec::new(self.alloc);
-        for k in 0..codes.width() {
-            registers.push(self.register(text, codes, k)?)?;
-        }
-        Ok(registers)
+        let values = self.values(Targets::Code(codes), codes.width() as usize)?;
+        let made = registers(self.alloc, text, values)?;
+        Ok(made)
     }
+}
 
-    // The register of bit k.
-    fn register(&self, text: &Text, codes: &Codes, k: u32) -> Result<Register, AllocError>
-        requires over { IsBodyOver (length self.now.numbers.now) (body_view self.now.statements.now) }
-        requires room { self.now.first + signals (body_view self.now.statements.now) < 2 ^ 32 }
-        ensures { IfOk result (λ register. register_view register ≡ register_of codes.now self.now.first
-            (numbered_body self.now.numbers.now (body_view self.now.statements.now)) text.now k) }
-    {
-        let next = self.value_of(Target::CodeBit(codes, k))?;
+// A 0 for each of so many targets.
+fn zeros(alloc: Global, count: usize) -> Result<Vec<Expr>, AllocError>
+    ensures count { IfOk result (λ made. length made.items ≡ count) }
+    ensures zeros { IfOk result (λ made. All (λ e. view e ≡ constant false) made.items) }
+{
+    let mut made = Vec::with_capacity(alloc, count)?;
+    for _ in 0..count {
+        made.push(Expr::Const(false))?;
+    }
+    Ok(made)
+}
+
+// A register for each bit of the next code.
+fn registers(alloc: Global, text: &Text, values: Vec<Expr>) -> Result<Vec<Register>, AllocError>
+    requires { length values.items < 2 ^ 32 }
+    ensures { IfOk result (λ registers. map register_view registers.items ≡ registers_by text.now 0 (map view values.items)) }
+{
+    let mut registers = Vec::new(alloc);
+    for next in values {
         let name = Name {
-            text: text.copy(self.alloc)?,
-            bit: Some(k),
+            text: text.copy(alloc)?,
+            bit: Some(registers.len() as u32),
         };
-        Ok(Register {
+        registers.push(Register {
             name,
             next,
             enable: Expr::Const(true),
-        })
+        })?;
     }
+    Ok(registers)
 }
 
 // Names and expressions, one beside the other.
@@ -222,7 +225,7 @@ fn machine_with(
 /// The machine of a state machine by codes of its states. Its registers hold the code, bit k of which is bit k of `st`, or of the
 /// first of st0, st1, and so on where ports have that name. Its equations are, for each state, whether it is the one that is held; for
 /// each condition of an `if` its value, and for each part and branch whether it is taken; and for each output what the statements
-/// leave of it. Takes memory for them, and time for the statements at each output and each bit of the code.
+/// leave of it. Takes memory for them, and time for the statements and for each bit of the code where they give the next state.
 pub fn machine_of(
     alloc: Global,
     machine: &StateMachine,

@@ -1,5 +1,7 @@
-use Rattle.std.proofs.Common.{◌≡◌, ◌+◌, ◌-◌, ◌<◌, ◌^◌, length, map, sym, ap, subst, ◌∙◌, arith}
-use Rattle.machine_core.specs.Machine.{Machine}
+use Rattle.std.proofs.Common.{◌≡◌, ◌+◌, ◌-◌, ◌<◌, ◌^◌, List, length, map, sym, ap, subst, ◌∙◌, arith}
+use Rattle.vlsi_base.specs.declared.name.Port.{Port}
+use Rattle.machine_core.specs.Checked.{AreInOrder}
+use Rattle.machine_core.specs.Machine.{Machine, names_of}
 use Rattle.machine_core.specs.View.{equation_view, register_view}
 use Rattle.fsm_machine.specs.Signals.{signals}
 use Rattle.fsm_code.specs.View.{body_view}
@@ -25,6 +27,10 @@ overflow_add-body-2 c =
     (c.as_slice-ports.ensures ∙ c.ports.ensures.value) c.in_ok-inputs.ensures in
     let states : length c.as_slice.result.now ≡ length c.args.codes.now.codes = ap (λ codes. length codes) c.as_slice.ensures in
     omega (arith, room, c.len-base.ensures, c.in_ok-inputs.inputs.ok.0, c.width.ensures, states)
+
+pub equations-requires-clause-ports : goal.equations-requires-clause-ports
+equations-requires-clause-ports c =
+    subst (λ (ports : List Port). AreInOrder (names_of ports)) (sym (c.as_slice-ports.ensures ∙ c.ports.ensures.value)) c.ports.ensures.checked.ports
 
 pub equations-requires-clause-over : goal.equations-requires-clause-over
 equations-requires-clause-over c =

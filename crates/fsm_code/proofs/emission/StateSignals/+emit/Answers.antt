@@ -1,4 +1,4 @@
-use Rattle.std.proofs.Common.{◌≡◌, ℕ, ◌+◌, ◌++◌, ◌∷◌, length, map, rules, arith, ap, subst, ◌∙◌}
+use Rattle.std.proofs.Common.{◌≡◌, ◌+◌, length, map, rules, arith, ap, subst, ◌∙◌}
 use Rattle.bool_expr.specs.Expression.{variable}
 use Rattle.bool_expr.specs.View.{view}
 use Rattle.fsm_machine.specs.Statements.{choose, select, either, further, listed}

@@ -1,5 +1,5 @@
-use Rattle.std.proofs.Common.{◌≡◌, map, List, ◌∷◌, [], ◌++◌, ◌∙◌, ap, sym, rules, arith}
-use Rattle.bool_expr.specs.Expression.{Expression, variable}
+use Rattle.std.proofs.Common.{map, ◌∙◌, sym}
+use Rattle.bool_expr.specs.Expression.{variable}
 use Rattle.bool_expr.specs.View.{view}
 use Rattle.fsm_machine.specs.Signals.{along}
 use Rattle.fsm_machine.specs.Moved.{substituted}
