@@ -1,5 +1,7 @@
 // One recursion for the operators.
-ghost use Rattle.std.specs.Prelude.{◌≡◌, ℕ, ◌+◌, ◌≤◌, ◌<◌, ◌⊎◌, IfSome, IfOk, IfErr};
+ghost use Rattle.bool_expr.specs.Expression.{gate_value};
+ghost use Rattle.bdd_core.specs.Decided.{decided_value, IsDecided};
+ghost use Rattle.std.specs.Prelude.{◌≡◌, ℕ, Bool, ◌+◌, ◌≤◌, ◌<◌, ◌⊎◌, IfSome, IfOk, IfErr};
 ghost use Rattle.std.specs.List.{Contains};
 ghost use Rattle.bdd_core.specs.Combined.{operator_value, combined_at, AreFrom, AreKnown, IsPlaceOf, AreCofactors, IsOutcome};
 
@@ -109,6 +111,62 @@ fn settled(table: &Table, operator: Operator, key: Triple, from: u32) -> usize
     table.constant(bit)
 }
 
+/// What an operator gives where that follows of functions that are constant: a constant, or one of the three functions.
+#[derive(Clone, Copy)]
+pub(crate) enum Decided {
+    Constant(bool),
+    First,
+    Second,
+    Third,
+}
+
+/// What a gate gives where one of its functions is this constant: a constant, or the other function.
+fn decided_by(gate: Gate, bit: bool, other: Decided) -> Option<Decided>
+    ensures { IfSome result (λ d. (a b c x : Bool) → x ≡ decided_value other a b c
+        → (gate_value gate bit x ≡ decided_value d a b c) × (gate_value gate x bit ≡ decided_value d a b c)) }
+{
+    match (gate, bit) {
+        (Gate::And, false) | (Gate::Nor, true) => Some(Decided::Constant(false)),
+        (Gate::Or, true) | (Gate::Nand, false) => Some(Decided::Constant(true)),
+        (Gate::And, true) | (Gate::Or, false) | (Gate::Xor, false) | (Gate::Xnor, true) => Some(
+            other,
+        ),
+        _ => None,
+    }
+}
+
+/// What an operator gives, where that follows of the values that are known.
+fn decide(operator: Operator, x: Option<bool>, y: Option<bool>, z: Option<bool>) -> Option<Decided>
+    ensures { IfSome result (IsDecided operator x y z) }
+{
+    match (operator, x, y, z) {
+        (Operator::Pair(gate), Some(bit), _, _) => decided_by(gate, bit, Decided::Second),
+        (Operator::Pair(gate), None, Some(bit), _) => decided_by(gate, bit, Decided::First),
+        (Operator::Pair(_), None, None, _) => None,
+        (Operator::Choice, Some(true), _, _) => Some(Decided::Second),
+        (Operator::Choice, Some(false), _, _) => Some(Decided::Third),
+        (Operator::Choice, None, Some(true), Some(false)) => Some(Decided::First),
+        (Operator::Choice, None, _, _) => None,
+    }
+}
+
+/// The place of what the operator gives, where that follows of functions that are constant.
+fn shortcut(table: &Table, operator: Operator, key: Triple, from: u32) -> Option<usize>
+    requires { AreFrom table.now.vars table.now.lists from key }
+    ensures { IfSome result (λ at. IsPlaceOf table.now.vars table.now.lists from
+        (combined_at operator table.now.vars table.now.lists from key) at) }
+{
+    let x = table.known(key.x);
+    let y = table.known(key.y);
+    let z = table.known(key.z);
+    match decide(operator, x, y, z)? {
+        Decided::Constant(bit) => Some(table.constant(bit)),
+        Decided::First => Some(key.x),
+        Decided::Second => Some(key.y),
+        Decided::Third => Some(key.z),
+    }
+}
+
 /// The node of what the operator gives. Each answer is kept, so that none is sought twice.
 pub(crate) fn combine(
     table: &mut Table,
@@ -132,6 +190,9 @@ pub(crate) fn combine(
     );
     if variable >= table.vars() {
         return Ok(settled(table, operator, key, from));
+    }
+    if let Some(at) = shortcut(table, operator, key, from) {
+        return Ok(at);
     }
     if let Some(at) = recall(memo, key) {
         return Ok(at);

@@ -1,7 +1,8 @@
 // Nodes without repetition.
-ghost use Rattle.std.specs.Prelude.{true, false, ◌≡◌, ◌+◌, ◌-◌, ◌^◌, ◌<◌, ◌≤◌, ◌++◌, ◌∷◌, ◌⊎◌, [], IfSome, IfNone, IfOk, OnOk, OnErr, IfErr, slice_get, Some, length};
+ghost use Rattle.std.specs.Prelude.{true, false, ℕ, ◌≡◌, ◌+◌, ◌-◌, ◌^◌, ◌<◌, ◌≤◌, ◌++◌, ◌∷◌, ◌⊎◌, [], IfSome, IfNone, IfOk, OnOk, OnErr, IfErr, slice_get, Some, length};
 ghost use Rattle.std.specs.List.{Contains};
 ghost use Rattle.bdd_core.specs.Truths.{constant};
+ghost use Rattle.bdd_core.specs.Decided.{IsBalanced};
 ghost use Rattle.bdd_core.specs.Nodes.{height, raised_to, place, joined, IsNarrow, IsSon, IsMade, IsFull, IsWhole};
 
 use crate::node::{BddError, Node};
@@ -129,6 +130,19 @@ impl Table {
     {
         let _ = &self.nodes;
         at == 1
+    }
+
+    /// The value of a place that is a constant; each function is a whole truth list.
+    pub fn known(&self, at: usize) -> Option<bool>
+        ensures bit { IfSome result (λ b. place self.now.lists at ≡ constant b) }
+        ensures balanced { (i : ℕ) → i < length self.now.lists → IsBalanced (place self.now.lists i) }
+    {
+        let _ = &self.nodes;
+        match at {
+            0 => Some(false),
+            1 => Some(true),
+            _ => None,
+        }
     }
 
     /// The nodes of the two halves, by a variable that is no later than the node's own.

@@ -5,8 +5,11 @@ use Rattle.bdd_core.proofs.Outcomes.{least_is, outcome_same, err_low, err_high, 
 use Rattle.bdd_core.proofs.operators.+combine.Goals as goal
 
 pub returns-in-Some-clause-outcome : goal.returns-in-Some-clause-outcome
-returns-in-Some-clause-outcome t c =
-    outcome_same _ _ _ _ _ _ ((c.requires.known c.args.key c.in-Some.at c.in-Some.ensures).answer c.args.from c.requires.key)
+returns-in-Some-clause-outcome t c = outcome_same _ _ _ _ _ _ c.in-Some.ensures
+
+pub returns-in-Some-recall-clause-outcome : goal.returns-in-Some-recall-clause-outcome
+returns-in-Some-recall-clause-outcome t c =
+    outcome_same _ _ _ _ _ _ ((c.requires.known c.args.key c.in-Some-recall.at c.in-Some-recall.ensures).answer c.args.from c.requires.key)
 
 pub returns-in_err-low-clause-outcome : goal.returns-in_err-low-clause-outcome
 returns-in_err-low-clause-outcome t c =
