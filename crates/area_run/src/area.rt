@@ -46,7 +46,7 @@ fn told(
 /// All files are read first: SOURCE, CATAL, and the behaviour and the layout of each cell that this uses. Then it is refused, in this
 /// order: by `Library`, or a limit of CATAL or a cell, at the first line or cell at fault; by `Source`, or a limit of the text; by
 /// `Limit` of `Size`, where the machine weighs more than `MOST_SIZE`; by `NoCover`, where no usable cell is an inverter, or else none a nand of
-/// two inputs. Memory goes by the files, the machine, and the cuts of its graph within trees.
+/// two inputs. Memory goes by the files, the machine, and enough cuts of its graph within trees.
 impl LibraryTool for AreaCommand {
     ghost use Rattle.std.specs.Prelude.{refl, [], ◌∷◌};
     ghost use Rattle.tool_drive.specs.Plan.{limited};

@@ -11,7 +11,7 @@ use gate_cells::gate_cells;
 use std::alloc::{AllocError, Global};
 
 /// Whether these are bounds below which no cover of a tree by usable cells of the library is, one for each number, in columns: whoever made
-/// them, a yes shows it by `cell_bounds_are_least`. Takes memory for the cuts of all nodes within their trees.
+/// them, a yes shows it by `cell_bounds_are_least`. Takes memory for enough cuts of all nodes within their trees.
 pub fn check_bounds(
     alloc: Global,
     held: u32,

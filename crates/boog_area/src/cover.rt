@@ -22,7 +22,7 @@ pub struct TreeCover {
     pub cover: LeastCover,
 }
 
-/// A cover of each tree by the cells of a library that has an inverter and a gate of two inputs. Takes memory for all cuts within trees.
+/// A cover of each tree by the cells of a library that has an inverter and a gate of two inputs. Takes memory for enough cuts within trees.
 fn cover_trees(
     alloc: Global,
     held: u32,
@@ -42,7 +42,7 @@ fn cover_trees(
 
 /// A cover of each tree of a graph by usable cells of a library, of least area: no cover of a tree has less than the bound of its root. The
 /// first node of the graph has number `held`. It is refused by `NoCover` exactly where no usable cell is an inverter, or else none a nand of two
-/// inputs, whether the graph has such a node or not. Takes memory for the cuts of all nodes within their trees, and time for each pair of cuts
+/// inputs, whether the graph has such a node or not. Takes memory for enough cuts of all nodes within their trees, and time for each pair of these
 /// of a node's two sons.
 pub fn least_area(
     alloc: Global,

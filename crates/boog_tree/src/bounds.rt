@@ -28,7 +28,7 @@ fn is_within(gate: bool, bound: u64, pick: &Option<Pick>) -> bool
     }
 }
 
-/// Whether each bound is at most what the best match of its number costs. Takes memory for all cuts within trees.
+/// Whether each bound is at most what the best match of its number costs. Takes memory for enough cuts within trees.
 fn are_within(
     alloc: Global,
     cells: &[CellWord],
@@ -61,7 +61,7 @@ fn are_within(
 }
 
 /// Whether these are bounds below which no cover of a tree is, one for each number: whoever made them, a yes shows it by `bounds_are_least`.
-/// Nothing else is asked of them. Takes memory for all cuts within trees.
+/// Nothing else is asked of them. Takes memory for enough cuts within trees.
 pub fn check_bounds(
     alloc: Global,
     cells: &[CellWord],

@@ -127,7 +127,7 @@ fn sweep(
 }
 
 /// A cover of each tree of a graph by the cells, of least area: no cover of a tree has less than the bound of its root. The first node of the
-/// graph has number `held`; the cells come by rising area, which `areas` has in columns. Takes memory for all cuts within trees.
+/// graph has number `held`; the cells come by rising area, which `areas` has in columns. Takes memory for enough cuts within trees.
 pub fn least_area(
     alloc: Global,
     cells: &[CellWord],
