@@ -13,7 +13,7 @@ use crate::table::{Table, table_of};
 use crate::tests::{Tests, all_tests};
 use crate::vectors::MOST_INPUTS;
 use bool_expr::Vars;
-use fmi_refine::levels;
+use fmi_refine::{Refinement, hints, levels};
 use fsm_core::StateMachine;
 use fsm_merge::{Numbering, merged_machine};
 use fsm_walk::{count, marks};
@@ -41,7 +41,13 @@ fn minimal_by(alloc: Global, machine: &StateMachine, table: &Table) -> Result<Mi
     // A machine is checked.
     let _ = machine.name();
     let mut levels = levels(alloc, &table.rows)?;
-    let tests = all_tests(alloc, &table.rows, &levels, &table.vectors)?;
+    let hints = hints(alloc, &table.rows, &levels)?;
+    let by = Refinement {
+        rows: &table.rows,
+        levels: &levels,
+        hints: &hints,
+    };
+    let tests = all_tests(alloc, by, &table.vectors)?;
     let Some(last) = levels.pop() else {
         unreachable!()
     };

@@ -7,7 +7,7 @@ ghost use Rattle.fmi_refine.specs.Refined.{AreLevels, last_level};
 ghost use Rattle.fmi_min.specs.Tests.{numbered, TellsApart, AreTestsWith, AreAllTests};
 
 use bool_expr::Bits;
-use fmi_refine::{Partition, Row, telling};
+use fmi_refine::{Refinement, telling};
 use std::alloc::{AllocError, Global};
 use vlsi_base::Listed;
 
@@ -42,20 +42,19 @@ fn numbered_vectors(alloc: Global, vectors: &[Bits], numbers: &[u32]) -> Result<
 // Vectors that tell two of the kept states apart. Takes memory for them.
 fn test_between(
     alloc: Global,
-    rows: &[Row],
-    levels: &[Partition],
+    by: Refinement,
     vectors: &[Bits],
     pair: (u32, u32),
 ) -> Result<Vectors, AllocError>
-    requires rows { AreRows rows.now }
-    requires levels { AreLevels rows.now levels.now }
-    requires vectors { length vectors.now ≡ vectors_of rows.now }
-    requires first { pair.0 < length rows.now }
-    requires second { pair.1 < length rows.now }
-    requires apart { nth (last_level levels.now).state_of pair.0 ≡ nth (last_level levels.now).state_of pair.1 → ⊥ }
-    ensures { IfOk result (λ test. TellsApart rows.now levels.now vectors.now pair.0 pair.1 test) }
+    requires rows { AreRows by.rows.now }
+    requires levels { AreLevels by.rows.now by.levels.now }
+    requires vectors { length vectors.now ≡ vectors_of by.rows.now }
+    requires first { pair.0 < length by.rows.now }
+    requires second { pair.1 < length by.rows.now }
+    requires apart { nth (last_level by.levels.now).state_of pair.0 ≡ nth (last_level by.levels.now).state_of pair.1 → ⊥ }
+    ensures { IfOk result (λ test. TellsApart by.rows.now by.levels.now vectors.now pair.0 pair.1 test) }
 {
-    let numbers = telling(alloc, rows, levels, pair.0, pair.1)?;
+    let numbers = telling(alloc, by, pair.0, pair.1)?;
     let test = numbered_vectors(alloc, vectors, &numbers)?;
     Ok(test)
 }
@@ -63,21 +62,21 @@ fn test_between(
 // A test of kept state number q with each one before it. Takes memory for them.
 fn tests_with(
     alloc: Global,
-    rows: &[Row],
-    levels: &[Partition],
+    by: Refinement,
     vectors: &[Bits],
     q: usize,
 ) -> Result<TestRow, AllocError>
-    requires rows { AreRows rows.now }
-    requires levels { AreLevels rows.now levels.now }
-    requires vectors { length vectors.now ≡ vectors_of rows.now }
-    requires known { q < length (last_level levels.now).kept }
-    ensures { IfOk result (λ row. AreTestsWith rows.now levels.now vectors.now q row) }
+    requires rows { AreRows by.rows.now }
+    requires levels { AreLevels by.rows.now by.levels.now }
+    requires vectors { length vectors.now ≡ vectors_of by.rows.now }
+    requires known { q < length (last_level by.levels.now).kept }
+    ensures { IfOk result (λ row. AreTestsWith by.rows.now by.levels.now vectors.now q row) }
 {
+    let levels = by.levels;
     let kept = levels[levels.len() - 1].kept.as_slice();
     let mut row = Vec::with_capacity(alloc, q)?;
     for p in 0..q {
-        row.push(test_between(alloc, rows, levels, vectors, (kept[p], kept[q]))?)?;
+        row.push(test_between(alloc, by, vectors, (kept[p], kept[q]))?)?;
     }
     Ok(TestRow::new(row))
 }
@@ -85,19 +84,19 @@ fn tests_with(
 // A test for each pair of kept states. Takes memory for them.
 pub(crate) fn all_tests(
     alloc: Global,
-    rows: &[Row],
-    levels: &[Partition],
+    by: Refinement,
     vectors: &[Bits],
 ) -> Result<Tests, AllocError>
-    requires rows { AreRows rows.now }
-    requires levels { AreLevels rows.now levels.now }
-    requires vectors { length vectors.now ≡ vectors_of rows.now }
-    ensures { IfOk result (λ tests. AreAllTests rows.now levels.now vectors.now tests) }
+    requires rows { AreRows by.rows.now }
+    requires levels { AreLevels by.rows.now by.levels.now }
+    requires vectors { length vectors.now ≡ vectors_of by.rows.now }
+    ensures { IfOk result (λ tests. AreAllTests by.rows.now by.levels.now vectors.now tests) }
 {
+    let levels = by.levels;
     let count = levels[levels.len() - 1].kept.as_slice().len();
     let mut tests = Vec::with_capacity(alloc, count)?;
     for q in 0..count {
-        tests.push(tests_with(alloc, rows, levels, vectors, q)?)?;
+        tests.push(tests_with(alloc, by, vectors, q)?)?;
     }
     Ok(Tests::new(tests))
 }

@@ -51,6 +51,24 @@ pub fn first_apart(rows: &[Row], classes: &[u32], s: u32, t: u32) -> Option<u32>
     )
 }
 
+/// A vector under which the moves of two states aren't alike by these classes: the one that is proposed where it is such a vector, and the
+/// first one where it isn't. Takes no memory.
+pub fn apart_by(rows: &[Row], classes: &[u32], proposed: u32, s: u32, t: u32) -> Option<u32>
+    requires rows { AreRows rows.now }
+    requires first { s < length rows.now }
+    requires second { t < length rows.now }
+    ensures some { IfSome result (λ v. (v < vectors_of rows.now) × (AreAlike classes.now (move_at rows.now s v) (move_at rows.now t v) → ⊥)) }
+    ensures none { IfNone result ((v : ℕ) → v < vectors_of rows.now → AreAlike classes.now (move_at rows.now s v) (move_at rows.now t v)) }
+{
+    let first = rows[s as usize].as_slice();
+    let second = rows[t as usize].as_slice();
+    let v = proposed as usize;
+    if v < first.len() && !are_alike(classes, &first[v], &second[v]) {
+        return Some(proposed);
+    }
+    first_in(classes, first, second)
+}
+
 /// Whether two states are in one class, and their moves alike under each vector. Takes no memory.
 pub fn are_same(rows: &[Row], classes: &[u32], s: u32, t: u32) -> bool
     requires rows { AreRows rows.now }

@@ -8,4 +8,4 @@ mod witnesses;
 
 pub use refining::levels;
 pub use round::{Move, Partition, Row};
-pub use witnesses::telling;
+pub use witnesses::{Refinement, hints, telling};
