@@ -47,7 +47,7 @@ fn minimal_by(alloc: Global, machine: &StateMachine, table: &Table) -> Result<Mi
         levels: &levels,
         hints: &hints,
     };
-    let tests = all_tests(alloc, by, &table.vectors)?;
+    let tests = all_tests(alloc, &by, &table.vectors)?;
     let Some(last) = levels.pop() else {
         unreachable!()
     };

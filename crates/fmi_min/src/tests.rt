@@ -42,17 +42,17 @@ fn numbered_vectors(alloc: Global, vectors: &[Bits], numbers: &[u32]) -> Result<
 // Vectors that tell two of the kept states apart. Takes memory for them.
 fn test_between(
     alloc: Global,
-    by: Refinement,
+    by: &Refinement,
     vectors: &[Bits],
     pair: (u32, u32),
 ) -> Result<Vectors, AllocError>
-    requires rows { AreRows by.rows.now }
-    requires levels { AreLevels by.rows.now by.levels.now }
-    requires vectors { length vectors.now ≡ vectors_of by.rows.now }
-    requires first { pair.0 < length by.rows.now }
-    requires second { pair.1 < length by.rows.now }
-    requires apart { nth (last_level by.levels.now).state_of pair.0 ≡ nth (last_level by.levels.now).state_of pair.1 → ⊥ }
-    ensures { IfOk result (λ test. TellsApart by.rows.now by.levels.now vectors.now pair.0 pair.1 test) }
+    requires rows { AreRows by.now.rows.now }
+    requires levels { AreLevels by.now.rows.now by.now.levels.now }
+    requires vectors { length vectors.now ≡ vectors_of by.now.rows.now }
+    requires first { pair.0 < length by.now.rows.now }
+    requires second { pair.1 < length by.now.rows.now }
+    requires apart { nth (last_level by.now.levels.now).state_of pair.0 ≡ nth (last_level by.now.levels.now).state_of pair.1 → ⊥ }
+    ensures { IfOk result (λ test. TellsApart by.now.rows.now by.now.levels.now vectors.now pair.0 pair.1 test) }
 {
     let numbers = telling(alloc, by, pair.0, pair.1)?;
     let test = numbered_vectors(alloc, vectors, &numbers)?;
@@ -62,15 +62,15 @@ fn test_between(
 // A test of kept state number q with each one before it. Takes memory for them.
 fn tests_with(
     alloc: Global,
-    by: Refinement,
+    by: &Refinement,
     vectors: &[Bits],
     q: usize,
 ) -> Result<TestRow, AllocError>
-    requires rows { AreRows by.rows.now }
-    requires levels { AreLevels by.rows.now by.levels.now }
-    requires vectors { length vectors.now ≡ vectors_of by.rows.now }
-    requires known { q < length (last_level by.levels.now).kept }
-    ensures { IfOk result (λ row. AreTestsWith by.rows.now by.levels.now vectors.now q row) }
+    requires rows { AreRows by.now.rows.now }
+    requires levels { AreLevels by.now.rows.now by.now.levels.now }
+    requires vectors { length vectors.now ≡ vectors_of by.now.rows.now }
+    requires known { q < length (last_level by.now.levels.now).kept }
+    ensures { IfOk result (λ row. AreTestsWith by.now.rows.now by.now.levels.now vectors.now q row) }
 {
     let levels = by.levels;
     let kept = levels[levels.len() - 1].kept.as_slice();
@@ -84,13 +84,13 @@ fn tests_with(
 // A test for each pair of kept states. Takes memory for them.
 pub(crate) fn all_tests(
     alloc: Global,
-    by: Refinement,
+    by: &Refinement,
     vectors: &[Bits],
 ) -> Result<Tests, AllocError>
-    requires rows { AreRows by.rows.now }
-    requires levels { AreLevels by.rows.now by.levels.now }
-    requires vectors { length vectors.now ≡ vectors_of by.rows.now }
-    ensures { IfOk result (λ tests. AreAllTests by.rows.now by.levels.now vectors.now tests) }
+    requires rows { AreRows by.now.rows.now }
+    requires levels { AreLevels by.now.rows.now by.now.levels.now }
+    requires vectors { length vectors.now ≡ vectors_of by.now.rows.now }
+    ensures { IfOk result (λ tests. AreAllTests by.now.rows.now by.now.levels.now vectors.now tests) }
 {
     let levels = by.levels;
     let count = levels[levels.len() - 1].kept.as_slice().len();

@@ -77,14 +77,14 @@ fn hint_of(hints: &[Vars], s: u32, t: u32) -> u32 {
 /// Vectors, by their numbers, that lead from two states of different classes to different outputs, fewer than there are partitions:
 /// under each the two states that are reached aren't alike by the classes of one round before. The hints' vectors are taken where they are
 /// such. Takes memory for them.
-pub fn telling(alloc: Global, by: Refinement, s: u32, t: u32) -> Result<Vec<u32>, AllocError>
-    requires rows { AreRows by.rows.now }
-    requires levels { AreLevels by.rows.now by.levels.now }
-    requires first { s < length by.rows.now }
-    requires second { t < length by.rows.now }
-    requires apart { nth (last_level by.levels.now).state_of s ≡ nth (last_level by.levels.now).state_of t → ⊥ }
-    ensures tells { IfOk result (λ made. Tells by.rows.now s t made.items) }
-    ensures few { IfOk result (λ made. length made.items < length by.levels.now) }
+pub fn telling(alloc: Global, by: &Refinement, s: u32, t: u32) -> Result<Vec<u32>, AllocError>
+    requires rows { AreRows by.now.rows.now }
+    requires levels { AreLevels by.now.rows.now by.now.levels.now }
+    requires first { s < length by.now.rows.now }
+    requires second { t < length by.now.rows.now }
+    requires apart { nth (last_level by.now.levels.now).state_of s ≡ nth (last_level by.now.levels.now).state_of t → ⊥ }
+    ensures tells { IfOk result (λ made. Tells by.now.rows.now s t made.items) }
+    ensures few { IfOk result (λ made. length made.items < length by.now.levels.now) }
 {
     let rows = by.rows;
     let levels = by.levels;

@@ -8,8 +8,8 @@ use Rattle.fmi_min.proofs.tests.all_tests.Goals as goal
 
 pub loop-q-preserved : goal.loop-q-preserved
 loop-q-preserved c =
-    let rows = c.args.by.rows.now in
-    let levels = c.args.by.levels.now in
+    let rows = c.args.by.now.rows.now in
+    let levels = c.args.by.now.levels.now in
     let vectors = c.args.vectors.now in
     let tests = c.loop-q.tests.items in
     let row = c.in_ok-tests_with.field-0 in
@@ -26,12 +26,12 @@ loop-q-preserved c =
 
 pub returns : goal.returns
 returns c =
-    let levels = c.args.by.levels.now in
+    let levels = c.args.by.now.levels.now in
     let kept : c.as_slice-count.result.now ≡ (last_level levels).kept =
     kept_read levels c.index-levels-levels.result c.as_slice-count.result.now c.requires.levels.some c.as_slice-count.ensures in
     let size = ap (λ (ks : List ℕ). length ks) kept in
     let count = c.loop-q.invariant.each in
     let past = c.loop-q-test.false in
     let low = c.loop-q.auto.q-end in
-    subst (λ (tests : List (List (List (List Bool)))). AreAllTests c.args.by.rows.now levels c.args.vectors.now tests) (sym c.new.ensures)
+    subst (λ (tests : List (List (List (List Bool)))). AreAllTests c.args.by.now.rows.now levels c.args.vectors.now tests) (sym c.new.ensures)
     (record { each = omega arith; told = c.loop-q.invariant.told })

@@ -8,7 +8,7 @@ use Rattle.fmi_min.proofs.tests.test_between.Goals as goal
 
 pub numbered_vectors-requires : goal.numbered_vectors-requires
 numbered_vectors-requires c =
-    let rows = c.args.by.rows.now in
+    let rows = c.args.by.now.rows.now in
     let vectors = c.args.vectors.now in
     let numbers = c.in_ok-numbers.numbers.items in
     let all : All (λ (v : ℕ). v < vectors_of rows) numbers =

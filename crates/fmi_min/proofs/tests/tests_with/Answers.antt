@@ -9,33 +9,33 @@ use Rattle.fmi_min.proofs.tests.tests_with.Goals as goal
 
 pub test_between-requires-clause-first : goal.test_between-requires-clause-first
 test_between-requires-clause-first c =
-    let levels = c.args.by.levels.now in
+    let levels = c.args.by.now.levels.now in
     let known = c.requires.known in
     let less = c.loop-p-test.true in
     let kept : c.as_slice-kept.result.now ≡ (last_level levels).kept =
     kept_read levels c.index-levels-levels.result c.as_slice-kept.result.now c.requires.levels.some c.as_slice-kept.ensures in
-    subst (λ (ks : List ℕ). nth ks c.loop-p.p < length c.args.by.rows.now) (sym kept) (kept_below c.args.by.rows.now levels c.requires.levels c.loop-p.p (omega arith))
+    subst (λ (ks : List ℕ). nth ks c.loop-p.p < length c.args.by.now.rows.now) (sym kept) (kept_below c.args.by.now.rows.now levels c.requires.levels c.loop-p.p (omega arith))
 
 pub test_between-requires-clause-second : goal.test_between-requires-clause-second
 test_between-requires-clause-second c =
-    let levels = c.args.by.levels.now in
+    let levels = c.args.by.now.levels.now in
     let kept : c.as_slice-kept.result.now ≡ (last_level levels).kept =
     kept_read levels c.index-levels-levels.result c.as_slice-kept.result.now c.requires.levels.some c.as_slice-kept.ensures in
-    subst (λ (ks : List ℕ). nth ks c.args.q < length c.args.by.rows.now) (sym kept) (kept_below c.args.by.rows.now levels c.requires.levels c.args.q c.requires.known)
+    subst (λ (ks : List ℕ). nth ks c.args.q < length c.args.by.now.rows.now) (sym kept) (kept_below c.args.by.now.rows.now levels c.requires.levels c.args.q c.requires.known)
 
 pub test_between-requires-clause-apart : goal.test_between-requires-clause-apart
 test_between-requires-clause-apart c =
-    let levels = c.args.by.levels.now in
+    let levels = c.args.by.now.levels.now in
     let of = (last_level levels).state_of in
     let kept : c.as_slice-kept.result.now ≡ (last_level levels).kept =
     kept_read levels c.index-levels-levels.result c.as_slice-kept.result.now c.requires.levels.some c.as_slice-kept.ensures in
     subst (λ (ks : List ℕ). nth of (nth ks c.loop-p.p) ≡ nth of (nth ks c.args.q) → ⊥) (sym kept)
-    (kept_apart c.args.by.rows.now levels c.requires.levels c.loop-p.p c.args.q c.loop-p-test.true c.requires.known)
+    (kept_apart c.args.by.now.rows.now levels c.requires.levels c.loop-p.p c.args.q c.loop-p-test.true c.requires.known)
 
 pub loop-p-preserved : goal.loop-p-preserved
 loop-p-preserved c =
-    let rows = c.args.by.rows.now in
-    let levels = c.args.by.levels.now in
+    let rows = c.args.by.now.rows.now in
+    let levels = c.args.by.now.levels.now in
     let vectors = c.args.vectors.now in
     let p = c.loop-p.p in
     let q = c.args.q in
@@ -62,5 +62,5 @@ returns c =
     let count = c.loop-p.invariant.each in
     let past = c.loop-p-test.false in
     let low = c.loop-p.auto.p-end in
-    subst (λ (row : List (List (List Bool))). AreTestsWith c.args.by.rows.now c.args.by.levels.now c.args.vectors.now c.args.q row) (sym c.new.ensures)
+    subst (λ (row : List (List (List Bool))). AreTestsWith c.args.by.now.rows.now c.args.by.now.levels.now c.args.vectors.now c.args.q row) (sym c.new.ensures)
     (record { each = omega arith; told = λ p l. c.loop-p.invariant.told p (omega arith) })

@@ -11,25 +11,25 @@ unreachable-requires c =
     let k = c.loop-level.level in
     let some = c.loop-level-test.true in
     let high = i.low in
-    let low : k - 1 < length c.args.by.levels.now = omega (arith, high) in
-    let read = classes_read c.args.by.levels.now (k - 1) c.index-levels-level.result c.as_slice-classes.result.now low c.as_slice-classes.ensures in
+    let low : k - 1 < length c.args.by.now.levels.now = omega (arith, high) in
+    let read = classes_read c.args.by.now.levels.now (k - 1) c.index-levels-level.result c.as_slice-classes.result.now low c.as_slice-classes.ensures in
     let one = sym c.class_at.ensures ∙ c.if-class_at.true ∙ c.class_at-in-loop-level.ensures in
-    some_apart c.args.by.rows.now c.args.by.levels.now k c.loop-level.first c.loop-level.second c.as_slice-classes.result.now c.requires.levels some i.low
+    some_apart c.args.by.now.rows.now c.args.by.now.levels.now k c.loop-level.first c.loop-level.second c.as_slice-classes.result.now c.requires.levels some i.low
     i.first i.second i.apart read one c.in_default.ensures.none
 
 pub bounds-as_slice-v : goal.bounds-as_slice-v
 bounds-as_slice-v c =
-    in_row c.args.by.rows.now c.loop-level.first c.in-Some.v c.as_slice.result.now c.index-rows-first.result c.requires.rows c.loop-level.invariant.first
+    in_row c.args.by.now.rows.now c.loop-level.first c.in-Some.v c.as_slice.result.now c.index-rows-first.result c.requires.rows c.loop-level.invariant.first
     c.in-Some.ensures.some.0 (c.as_slice.ensures ∙ c.index-rows-first.is)
 
 pub bounds-as_slice-v-then-class_at : goal.bounds-as_slice-v-then-class_at
 bounds-as_slice-v-then-class_at c =
-    in_row c.args.by.rows.now c.loop-level.second c.in-Some.v c.as_slice-then-class_at.result.now c.index-rows-second.result c.requires.rows
+    in_row c.args.by.now.rows.now c.loop-level.second c.in-Some.v c.as_slice-then-class_at.result.now c.index-rows-second.result c.requires.rows
     c.loop-level.invariant.second c.in-Some.ensures.some.0 (c.as_slice-then-class_at.ensures ∙ c.index-rows-second.is)
 
 pub returns-then-a-b-clause-tells : goal.returns-then-a-b-clause-tells
 returns-then-a-b-clause-tells c =
-    let rows = c.args.by.rows.now in
+    let rows = c.args.by.now.rows.now in
     let i = c.loop-level.invariant in
     let a = c.loop-level.first in
     let b = c.loop-level.second in
@@ -44,8 +44,8 @@ returns-then-a-b-clause-tells c =
 
 pub loop-level-preserved-then-class_at : goal.loop-level-preserved-then-class_at
 loop-level-preserved-then-class_at c =
-    let rows = c.args.by.rows.now in
-    let levels = c.args.by.levels.now in
+    let rows = c.args.by.now.rows.now in
+    let levels = c.args.by.now.levels.now in
     let i = c.loop-level.invariant in
     let a = c.loop-level.first in
     let b = c.loop-level.second in
