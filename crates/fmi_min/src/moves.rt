@@ -1,5 +1,6 @@
 // The moves of a state, one for each vector.
 ghost use Rattle.std.specs.Prelude.{◌≡◌, length, map, All, IfOk, OnOk};
+ghost use Rattle.machine_core.specs.Checked.{AreInOrder};
 ghost use Rattle.fsm_code.specs.View.{body_view};
 ghost use Rattle.fsm_walk.specs.Step.{step_of};
 ghost use Rattle.net_core.specs.Places.{Begins};
@@ -22,7 +23,8 @@ pub(crate) fn steps_of(
     words: &[Bits],
     state: u32,
 ) -> Result<Vec<Step>, AllocError>
-    requires { All (λ w. length w ≡ length machine.now.ports) words.now }
+    requires order { AreInOrder outputs.now }
+    requires over { All (λ w. length w ≡ length machine.now.ports) words.now }
     ensures { IfOk result (λ steps. steps.items ≡ map (λ w. step_of machine.now.body outputs.now w state) words.now) }
 {
     let body = machine.body();

@@ -115,7 +115,7 @@ made_one made olds news k one same others put = (put.0, λ j d low. by j d low (
       put.1 j d low ∙ elsewhere j k (one (view (get_or olds j d))) (view (get_or olds j d)) apart ∙ sym (others j (view (get_or olds j d)) low apart)
 
 -- names in order are different ones
-differ : (names : List Name) (j k : ℕ) → AreInOrder names → j < length names → k < length names → j ≢ k → get_or names j nameless ≢ get_or names k nameless
+pub differ : (names : List Name) (j k : ℕ) → AreInOrder names → j < length names → k < length names → j ≢ k → get_or names j nameless ≢ get_or names k nameless
 differ names j k ordered hj hk apart is = elim (cases_lt j k) [
   | inl lt ↦ by (get_or names j nameless) (get_or names k nameless) is (ordered j k nameless lt hk)
   | inr ge ↦ elim (cases_lt k j) [

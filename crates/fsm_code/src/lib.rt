@@ -14,4 +14,4 @@ pub use count::signals;
 pub use emission::StateSignals;
 pub use path::{Place, along, any_of};
 pub use statements::{Assignment, Branches, Parts, Statements};
-pub use target::{Sought, Targets};
+pub use target::{Sought, Targets, place_of};

@@ -32,8 +32,8 @@ pub struct Sought<'a> {
     pub numbers: &'a [u32],
 }
 
-// The place of a name in a list that stands in the order of names.
-fn place_of(names: &[Name], name: &Name) -> Option<usize>
+/// The place of a name in a list that stands in the order of names. Takes no memory.
+pub fn place_of(names: &[Name], name: &Name) -> Option<usize>
     requires { AreInOrder names.now }
     ensures { MatchOption result (IsNowhere names.now name.now) (λ k. Stands names.now k name.now) }
 {

@@ -1,5 +1,6 @@
 pub mod Over
 mod Meeting
+pub mod Giving
 pub mod Trailing
 pub mod Reading
 pub mod Wording

@@ -1,6 +1,6 @@
 -- The assignments that a walk through statements meets.
-use Rattle.std.specs.Prelude.{ℕ, Bool, List, [], ◌∷◌, ◌++◌, if◌then◌else◌, Option, None, Some}
-use Rattle.bool_expr.specs.Expression.{val}
+use Rattle.std.specs.Prelude.{◌≡◌, ◌<◌, ℕ, Bool, List, [], ◌∷◌, ◌++◌, length, if◌then◌else◌, Option, None, Some}
+use Rattle.bool_expr.specs.Expression.{val, bit}
 use Rattle.bool_expr.specs.Support.{among}
 use Rattle.fsm_machine.specs.Statements.{Assignment, output, next, Statements, finish, assign, choose, select, Parts, only, either, further, Branches, closed, others, listed}
 
@@ -30,3 +30,7 @@ given_or (Some x) value = x
 abbrev pub last_given : {A : Type 0} → (Assignment → Option A) → A → List Assignment → A
 last_given given value [] = value
 last_given given value (a ∷ rest) = last_given given (given_or (given a) value) rest
+
+-- Each value has become what the assignment gives to its target, or is as it was.
+abbrev pub EachGiven : (ℕ → Assignment → Option Bool) → Assignment → List Bool → List Bool → Type 0
+EachGiven given a olds news = (length news ≡ length olds) × ((k : ℕ) → k < length olds → bit news k ≡ given_or (given k a) (bit olds k))

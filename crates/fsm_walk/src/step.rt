@@ -1,15 +1,17 @@
 // The step that a state machine makes from a state.
-ghost use Rattle.std.specs.Prelude.{◌≡◌, false, length, map, All, IfOk};
+ghost use Rattle.std.specs.Prelude.{◌≡◌, false, length, map, All, IfOk, slice_index_or};
 ghost use Rattle.fsm_machine.specs.Walk.{given_next, given_output};
 ghost use Rattle.fsm_machine.specs.Fsm.{fsm_outputs};
 ghost use Rattle.fsm_code.specs.Over.{IsAssignmentOver, IsBodyOver};
 ghost use Rattle.fsm_code.specs.View.{assignment_view, body_view};
-ghost use Rattle.fsm_walk.specs.Trail.{last_given};
+ghost use Rattle.machine_core.specs.Checked.{AreInOrder};
+ghost use Rattle.fsm_code.specs.Sought.{nameless};
+ghost use Rattle.fsm_walk.specs.Trail.{last_given, EachGiven};
 ghost use Rattle.fsm_walk.specs.Step.{step_of};
 
 use crate::trail::trail;
 use bool_expr::{Bits, value_at};
-use fsm_code::{Assignment, Statements};
+use fsm_code::{Assignment, Statements, place_of};
 use fsm_core::StateMachine;
 use std::alloc::{AllocError, Global};
 use vlsi_base::{Dir, Name, Names};
@@ -47,20 +49,19 @@ fn next_of(trail: &[&Assignment]) -> u32
     next
 }
 
-// The output bit that the assignments leave.
-fn output_of(trail: &[&Assignment], bits: &[bool], name: &Name) -> bool
-    requires { All (λ a. IsAssignmentOver (length bits.now) (assignment_view a.now)) trail.now }
-    ensures { result ≡ last_given (given_output bits.now name.now) false (map (λ a. assignment_view a.now) trail.now) }
+// Puts what an assignment gives to an output bit in its place.
+fn assign(outs: &mut [bool], bits: &[bool], outputs: &[Name], assignment: &Assignment)
+    requires order { AreInOrder outputs.now }
+    requires count { length outs.old ≡ length outputs.now }
+    requires over { IsAssignmentOver (length bits.now) (assignment_view assignment.now) }
+    ensures { EachGiven (λ k. given_output bits.now (slice_index_or outputs.now k nameless)) (assignment_view assignment.now) outs.old outs.new }
 {
-    let mut value = false;
-    for assignment in trail {
-        if let Assignment::Output(target, e) = *assignment {
-            if target.is_same(name) {
-                value = value_at(e, bits);
-            }
-        }
+    let Assignment::Output(target, e) = assignment else {
+        return;
+    };
+    if let Some(place) = place_of(outputs, target) {
+        outs[place] = value_at(e, bits);
     }
-    value
 }
 
 // The output bits that the assignments leave.
@@ -70,13 +71,14 @@ fn outputs_of(
     bits: &[bool],
     outputs: &[Name],
 ) -> Result<Bits, AllocError>
-    requires { All (λ a. IsAssignmentOver (length bits.now) (assignment_view a.now)) trail.now }
+    requires order { AreInOrder outputs.now }
+    requires over { All (λ a. IsAssignmentOver (length bits.now) (assignment_view a.now)) trail.now }
     ensures { IfOk result (λ outs. outs
         ≡ map (λ name. last_given (given_output bits.now name) false (map (λ a. assignment_view a.now) trail.now)) outputs.now) }
 {
-    let mut outs = Vec::new(alloc);
-    for name in outputs {
-        outs.push(output_of(trail, bits, name))?;
+    let mut outs = vec![in alloc; false; outputs.len()]?;
+    for assignment in trail {
+        assign(&mut outs, bits, outputs, *assignment);
     }
     Ok(Bits::new(outs))
 }
@@ -89,7 +91,8 @@ pub fn step_from(
     bits: &[bool],
     state: u32,
 ) -> Result<Step, AllocError>
-    requires { IsBodyOver (length bits.now) (body_view body.now) }
+    requires order { AreInOrder outputs.now }
+    requires over { IsBodyOver (length bits.now) (body_view body.now) }
     ensures { IfOk result (λ made. made ≡ step_of (body_view body.now) outputs.now bits.now state) }
 {
     let trail = trail(alloc, bits, state, body)?;

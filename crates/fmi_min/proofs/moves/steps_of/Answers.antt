@@ -8,12 +8,12 @@ use Rattle.fsm_walk.proofs.Over.{checked_over}
 use Rattle.fsm_walk.proofs.Marking.{made_more}
 use Rattle.fmi_min.proofs.moves.steps_of.Goals as goal
 
-pub step_from-requires : goal.step_from-requires
-step_from-requires c =
+pub step_from-requires-clause-over : goal.step_from-requires-clause-over
+step_from-requires-clause-over c =
     let f = c.args.machine.now in
     let over : IsBodyOver (length f.ports) f.body = checked_over f c.body-body.ensures.checked in
     let size : length c.as_slice.result.now ≡ length f.ports =
-    ap (λ (w : List Bool). length w) (c.as_slice.ensures ∙ c.word-item.is) ∙ c.requires c.loop-word.word-index c.word-item.result c.loop-word-test.true in
+    ap (λ (w : List Bool). length w) (c.as_slice.ensures ∙ c.word-item.is) ∙ c.requires.over c.loop-word.word-index c.word-item.result c.loop-word-test.true in
     subst (λ (n : ℕ). IsBodyOver n (body_view c.body-body.result.now)) (sym size)
     (subst (λ (b : Statements). IsBodyOver (length f.ports) b) (sym c.body-body.ensures.value) over)
 

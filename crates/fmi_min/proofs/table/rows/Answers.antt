@@ -1,6 +1,8 @@
-use Rattle.std.proofs.Common.{◌≡◌, ◌∷◌, ◌++◌, [], ◌<◌, ℕ, Bool, List, length, length-append, map, sym, ap, ◌∙◌, subst, arith}
+use Rattle.std.proofs.Common.{◌≡◌, ◌∷◌, ◌++◌, [], ◌<◌, ℕ, Bool, List, length, length-append, map, not, sym, ap, ◌∙◌, subst, arith}
 use Rattle.std.proofs.lemmas.List.Elements.{All-same}
 use Rattle.vlsi_base.specs.declared.name.Name.{Name}
+use Rattle.machine_core.specs.Checked.{AreInOrder}
+use Rattle.machine_core.specs.Machine.{is_input}
 use Rattle.fsm_machine.specs.Fsm.{fsm_outputs}
 use Rattle.fsm_walk.specs.declared.step.Step.{Step}
 use Rattle.fsm_walk.specs.Step.{step_of}
@@ -10,11 +12,18 @@ use Rattle.fmi_min.specs.Moves.{AreMovesOf}
 use Rattle.fmi_min.specs.Table.{words_read}
 use Rattle.fmi_min.proofs.Meeting.{steps_under, AreMade, is_table, moves_still}
 use Rattle.fmi_min.proofs.Telling.{words_over}
+use Rattle.syf_machine.proofs.Targeted.{outputs_in_order}
 use Rattle.fmi_min.proofs.Listing.{pushed}
 use Rattle.fmi_min.proofs.table.rows.Goals as goal
 
-pub steps_of-requires : goal.steps_of-requires
-steps_of-requires c =
+pub steps_of-requires-clause-order : goal.steps_of-requires-clause-order
+steps_of-requires-clause-order c =
+    let f = c.args.machine.now in
+    subst (λ (names : List Name). AreInOrder names) (sym (c.as_slice-in-loop-state.ensures ∙ c.in_ok-outputs.ensures))
+    (outputs_in_order (λ p. not (is_input p.dir)) f.ports c.states.ensures.checked.ports)
+
+pub steps_of-requires-clause-over : goal.steps_of-requires-clause-over
+steps_of-requires-clause-over c =
     let f = c.args.machine.now in
     All-same (λ (w : List Bool). length w ≡ length f.ports) c.args.words.now (words_read f) c.requires (words_over f)
 
