@@ -1,5 +1,5 @@
 -- From the refusals of readers and of the netlist's machine to the tool's.
-use Rattle.std.proofs.Common.{◌≡◌, ℕ, true, List, [], ◌∷◌, None, Err, false, sym, subst, refl, arith}
+use Rattle.std.proofs.Common.{◌≡◌, ℕ, true, List, [], ◌∷◌, None, Err, false, sym, subst, refl}
 use Rattle.vlsi_base.specs.declared.fault.FaultKind.TheVariants as kind
 use Rattle.vlsi_base.specs.declared.name.Name.{Name}
 use Rattle.machine_core.specs.Machine.{Machine}
@@ -17,8 +17,7 @@ use Rattle.flatbeh_run.specs.declared.words.FlatbehCommand.{FlatbehCommand}
 use Rattle.tool_drive.specs.declared.status.Status.{Status}
 use Rattle.tool_drive.specs.Table.{IsJudged, IsFair, refusal}
 use Rattle.tool_drive.specs.Refusals.{whole_fault, MemoryOr, judged}
-use Rattle.flatbeh_run.specs.Laws.{HasFewBits}
-use Rattle.flatbeh_run.specs.Flatbeh.{IsNotTooMany, HasVectorClock, no_behaviour, twice, vector_clock, Flattens, IsToldOf}
+use Rattle.flatbeh_run.specs.Flatbeh.{HasVectorClock, no_behaviour, twice, vector_clock, Flattens, IsToldOf}
 
 module _ (c : FlatbehCommand) (source list : List ℕ) (cells : List (List ℕ)) where
   module _ (l : Library) (table : List ModelPins) (library : IsLibraryOf false list cells l) (pins : IsTableOf l true table) where
@@ -31,7 +30,6 @@ module _ (c : FlatbehCommand) (source list : List ℕ) (cells : List (List ℕ))
       told_flat (flat.Twice text) h t k =
           subst (λ (s : Status). IsFair s None (Flattens c source list cells (Err (refusal s None)))) (sym k)
           (refl, twice l table n text (record { library = library; pins = pins; netlist = netlist }) h.0 h.1 refl)
-      told_flat (flat.TooManyBits reached) h t k = absurd k
 
       pub by_flat : (e : FlatError) (s : Status) → IsFlatRefusal n l e → MemoryOr s (IsToldOf c e s) → IsJudged (Flattens c source list cells) (Err (refusal s None))
       by_flat e s h k = judged (Flattens c source list cells) (IsToldOf c e) (told_flat e h) s k
@@ -43,10 +41,3 @@ module _ (c : FlatbehCommand) (source list : List ℕ) (cells : List (List ℕ))
             (λ t e.
             subst (λ (s : Status). IsFair s None (Flattens c source list cells (Err (refusal s None)))) (sym e)
             (refl, vector_clock l table n m name (record { library = library; pins = pins; netlist = netlist }) plain apart is h refl)) s k
-
--- a machine with few bits isn't refused for having many
-pub not_too_many : (n : Netlist) (l : Library) → (IsPlain n l → HasFewBits n l) → (e : FlatError) → IsFlatRefusal n l e → IsNotTooMany e
-not_too_many n l few flat.Memory h = tt
-not_too_many n l few (flat.NoBehaviour model) h = tt
-not_too_many n l few (flat.Twice text) h = tt
-not_too_many n l few (flat.TooManyBits reached) h = let low = (few h.0).bits in let high = h.2.many in omega (arith, low, high)

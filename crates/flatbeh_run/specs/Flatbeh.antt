@@ -94,14 +94,8 @@ Flattens c source catal cells (Err r) = (r.part ≡ None) × IsFlatbehRefusal c 
 abbrev pub flatbeh_answers : FlatbehCommand → Inputs → Result Product Refusal → Type 0
 flatbeh_answers c i r = Flattens c (get_or i.first 0 []) (get_or i.first 1 []) i.more r
 
--- How a refusal of the netlist is told. No netlist that is read has too many bits.
+-- how a refusal of the netlist is told
 abbrev pub IsToldOf : FlatbehCommand → FlatError → Status → Type 0
 IsToldOf c flat.Memory s = ⊥
 IsToldOf c (flat.NoBehaviour model) s = s ≡ status.No (NoBehaviour model)
 IsToldOf c (flat.Twice text) s = s ≡ whole_fault c.source kind.Twice (scalar text ∷ [])
-IsToldOf c (flat.TooManyBits reached) s = ⊥
-
--- a refusal, and not for too many bits
-abbrev pub IsNotTooMany : FlatError → Type 0
-IsNotTooMany (flat.TooManyBits reached) = ⊥
-IsNotTooMany _ = Unit {0}

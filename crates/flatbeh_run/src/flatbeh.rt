@@ -4,7 +4,7 @@ ghost use Rattle.cell_lib.specs.Library.{IsLibraryOf, IsRead};
 ghost use Rattle.tool_drive.specs.Refusals.{MemoryOr, whole_fault};
 ghost use Rattle.tool_drive.specs.Table.{IsJudged};
 ghost use Rattle.net_flat.specs.Flat.{HasScalarClock};
-ghost use Rattle.flatbeh_run.specs.Flatbeh.{HasVectorClock, Flattens, IsNotTooMany, IsToldOf};
+ghost use Rattle.flatbeh_run.specs.Flatbeh.{HasVectorClock, Flattens, IsToldOf};
 
 use crate::laws::{netlist_has_few_bits, netlist_has_words};
 use crate::product::product;
@@ -23,7 +23,6 @@ use vst_io::read_vst;
 
 // How a refusal of the netlist is told.
 fn flat_status(alloc: Global, command: &FlatbehCommand, error: FlatError) -> Status
-    requires { IsNotTooMany error }
     ensures { MemoryOr result (IsToldOf command.now error result) }
 {
     match error {
@@ -32,7 +31,6 @@ fn flat_status(alloc: Global, command: &FlatbehCommand, error: FlatError) -> Sta
         FlatError::Twice(text) => {
             named_fault(alloc, &command.source, FaultKind::Twice, Name::scalar(text))
         }
-        FlatError::TooManyBits(_) => unreachable!(),
     }
 }
 

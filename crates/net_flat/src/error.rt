@@ -17,9 +17,6 @@ pub enum FlatError {
     /// A flip-flop and a port have this name.
     #[error("twice")]
     Twice(Text),
-    /// The machine would have so many bits, 2^32 or more; the greatest number of 64 bits where they are more.
-    #[error("too many bits")]
-    TooManyBits(u64),
 }
 
 impl From<AllocError> for FlatError {

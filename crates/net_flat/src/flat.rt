@@ -48,17 +48,15 @@ fn registers(alloc: Global, netlist: &Netlist, library: &Library) -> Result<Vec<
 ///   the order of instances.
 /// - `Twice`: each cell is one of these, and a flip-flop's name is the text of a port; it gives the first such name, in the order of
 ///   instances.
-/// - `TooManyBits`: neither of these, and that machine would have 2^32 bits or more; it gives their number, or the
-///   greatest one of 64 bits where they are more.
 ///
 /// Takes the memory and the time of that machine three times over; for each model it looks through the library's cells.
 pub fn flatbeh(alloc: Global, netlist: &Netlist, library: &Library) -> Result<Machine, FlatError>
-    requires { MeetsConditionWith library.now netlist.now }
+    requires condition { MeetsConditionWith library.now netlist.now }
+    requires few { IsPlain netlist.now library.now → bits_of netlist.now library.now < 2 ^ 32 }
     ensures machine { IfOk result (λ m. IsFlatWith netlist.now library.now m) }
     ensures text { IfOk result (λ m. CanBeText netlist.now m) }
     ensures plain { OnOk result (IsPlain netlist.now library.now) }
     ensures apart { OnOk result (AreApart netlist.now library.now) }
-    ensures few { OnOk result (bits_of netlist.now library.now < 2 ^ 32) }
     ensures numbered { IfOk result (λ m. length m.vars ≤ bits_of netlist.now library.now) }
     ensures refused { IfErr result (IsFlatRefusal netlist.now library.now) }
 {
@@ -70,7 +68,7 @@ pub fn flatbeh(alloc: Global, netlist: &Netlist, library: &Library) -> Result<Ma
         Ok(machine) => machine,
         Err(NetMachineError::Memory) => return Err(FlatError::Memory),
         Err(NetMachineError::NoBehaviour(model)) => return Err(FlatError::NoBehaviour(model)),
-        Err(NetMachineError::TooManyBits(bits)) => return Err(FlatError::TooManyBits(bits)),
+        Err(NetMachineError::TooManyBits(_)) => unreachable!(),
     };
     // Its names aren't read here: the call says that the machine is checked.
     let _ = machine.vars();

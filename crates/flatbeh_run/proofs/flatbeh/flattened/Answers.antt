@@ -1,4 +1,4 @@
-use Rattle.std.proofs.Common.{true, Err, sym, subst, refl}
+use Rattle.std.proofs.Common.{true, Err, sym, subst, refl, arith}
 use Rattle.vst_io.specs.Text.{IsVstRefusal}
 use Rattle.tool_drive.specs.Refusals.{refused_file}
 use Rattle.tool_drive.specs.declared.tool.Refusal.{Refusal}
@@ -6,7 +6,7 @@ use Rattle.tool_drive.specs.Table.{IsJudged}
 use Rattle.machine_core.specs.Checked.{IsChecked}
 use Rattle.vst_laws.proofs.Supplies.{lists_supplies}
 use Rattle.flatbeh_run.specs.Flatbeh.{bad_netlist, Flattens}
-use Rattle.flatbeh_run.proofs.Refusing.{by_flat, by_clock, not_too_many}
+use Rattle.flatbeh_run.proofs.Refusing.{by_flat, by_clock}
 use Rattle.flatbeh_run.proofs.FewBits.{names_few}
 use Rattle.flatbeh_run.proofs.flatbeh.flattened.Goals as goal
 
@@ -15,22 +15,22 @@ returns-in-Err c = λ catal cells library.
     refused_file (Flattens c.args.command.now c.args.source.now catal cells) c.args.command.now.source (IsVstRefusal c.args.source.now c.in_ok-table.table) c.in-Err.error c.refused.result c.plain.result c.in-Err.ensures.refused
     c.refused.ensures c.plain.ensures (λ o. (refl, bad_netlist c.args.library.now c.in_ok-table.table library c.in_ok-table.ensures.table o))
 
-pub flatbeh-requires : goal.flatbeh-requires
-flatbeh-requires c =
+pub flatbeh-requires-clause-condition : goal.flatbeh-requires-clause-condition
+flatbeh-requires-clause-condition c =
     (c.in_ok-table.table, c.in_ok-table.ensures.table, c.in-Ok.ensures.condition (lists_supplies c.args.library.now true c.in_ok-table.table c.in_ok-table.ensures.table))
+
+pub flatbeh-requires-clause-few : goal.flatbeh-requires-clause-few
+flatbeh-requires-clause-few c = λ plain.
+    let met = c.in-Ok.ensures.condition (lists_supplies c.args.library.now true c.in_ok-table.table c.in_ok-table.ensures.table) in
+    let few = (c.netlist_has_few_bits.ensures c.requires.0 c.args.source.now c.requires.1 c.args.library.now c.in_ok-table.table c.in-Ok.netlist c.requires.2 c.in_ok-table.ensures.table
+        c.in-Ok.ensures.accepted met plain).bits in
+    omega (arith, few)
 
 pub returns-in-Err-flatbeh : goal.returns-in-Err-flatbeh
 returns-in-Err-flatbeh c = λ catal cells library.
     subst (λ (r : Refusal). IsJudged (Flattens c.args.command.now c.args.source.now catal cells) (Err r)) (sym c.plain-in-Err-flatbeh.ensures)
     (by_flat c.args.command.now c.args.source.now catal cells c.args.library.now c.in_ok-table.table library c.in_ok-table.ensures.table c.in-Ok.netlist
     c.in-Ok.ensures.accepted c.in-Err-flatbeh.error c.flat_status.result c.in-Err-flatbeh.ensures.refused c.flat_status.ensures)
-
-pub flat_status-requires : goal.flat_status-requires
-flat_status-requires c =
-    not_too_many c.in-Ok.netlist c.args.library.now
-    (c.netlist_has_few_bits.ensures c.requires.0 c.args.source.now c.requires.1 c.args.library.now c.in_ok-table.table c.in-Ok.netlist c.requires.2 c.in_ok-table.ensures.table
-    c.in-Ok.ensures.accepted (c.in-Ok.ensures.condition (lists_supplies c.args.library.now true c.in_ok-table.table c.in_ok-table.ensures.table)))
-    c.in-Err-flatbeh.error c.in-Err-flatbeh.ensures.refused
 
 pub product-requires-clause-few : goal.product-requires-clause-few
 product-requires-clause-few c =

@@ -16,11 +16,13 @@ returns-in-Err-NoBehaviour-clause-refused c =
     absurd (never_opaque c.args.netlist.now c.args.library.now _ c.in_ok-names.ensures.plain
     (subst (λ (e : NetMachineError). IsMachineRefusal c.args.netlist.now c.args.library.now e) c.in-Err-NoBehaviour.field-0-is c.in-Err-NoBehaviour.ensures.refused))
 
-pub returns-in-Err-TooManyBits-clause-refused : goal.returns-in-Err-TooManyBits-clause-refused
-returns-in-Err-TooManyBits-clause-refused c =
-    let told = c.in-Err-TooManyBits.field-0-is ∙ ap error.TooManyBits (sym c.in-Err-TooManyBits.bits-is) in
+pub unreachable-requires : goal.unreachable-requires
+unreachable-requires c =
+    let told = c.in-Err-TooManyBits.field-0-is in
     let h = subst (λ (e : NetMachineError). IsMachineRefusal c.args.netlist.now c.args.library.now e) told c.in-Err-TooManyBits.ensures.refused in
-    (c.in_ok-names.ensures.plain, c.in_ok-names.ensures.apart, h.1)
+    let few = c.requires.few c.in_ok-names.ensures.plain in
+    let many = h.1.many in
+    omega (arith, few, many)
 
 pub named-requires-clause-free : goal.named-requires-clause-free
 named-requires-clause-free c =
@@ -41,7 +43,7 @@ returns-clause-machine c = λ table table_is condition.
 
 pub returns-clause-text : goal.returns-clause-text
 returns-clause-text c =
-    let table = c.requires.0 in
-    let is = c.in-Ok.ensures.order c.requires.0 c.requires.1 c.requires.2 in
-    let flat = returns-clause-machine c c.requires.0 c.requires.1 c.requires.2 in
+    let table = c.requires.condition.0 in
+    let is = c.in-Ok.ensures.order c.requires.condition.0 c.requires.condition.1 c.requires.condition.2 in
+    let flat = returns-clause-machine c c.requires.condition.0 c.requires.condition.1 c.requires.condition.2 in
     can_be_text c.args.netlist.now c.args.library.now c.in_ok-made.made c.in_ok-made.ensures.renamed.checked flat.of_netlist.name flat.of_netlist.ports (λ name. (flat.registers name).0) c.in_ok-names.ensures.apart
