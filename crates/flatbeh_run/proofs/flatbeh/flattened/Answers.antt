@@ -23,7 +23,7 @@ pub flatbeh-requires-clause-few : goal.flatbeh-requires-clause-few
 flatbeh-requires-clause-few c = λ plain.
     let met = c.in-Ok.ensures.condition (lists_supplies c.args.library.now true c.in_ok-table.table c.in_ok-table.ensures.table) in
     let few = (c.netlist_has_few_bits.ensures c.requires.0 c.args.source.now c.requires.1 c.args.library.now c.in_ok-table.table c.in-Ok.netlist c.requires.2 c.in_ok-table.ensures.table
-        c.in-Ok.ensures.accepted met plain).bits in
+    c.in-Ok.ensures.accepted met plain).bits in
     omega (arith, few)
 
 pub returns-in-Err-flatbeh : goal.returns-in-Err-flatbeh
