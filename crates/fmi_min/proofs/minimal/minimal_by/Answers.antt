@@ -24,20 +24,26 @@ levels-requires c =
     let rows = c.args.table.now.rows.items in
     subst (λ (rs : List (List Move)). AreRows rs) (sym c.deref.ensures.value) (are_rows f rows c.name.ensures.checked c.requires.table c.requires.few)
 
+pub hints-requires : goal.hints-requires
+hints-requires c =
+    let f = c.args.machine.now in
+    let rows = c.args.table.now.rows.items in
+    record { rows = subst (λ (rs : List (List Move)). AreRows rs) (sym c.deref-2.ensures.value) (are_rows f rows c.name.ensures.checked c.requires.table c.requires.few) }
+
 pub all_tests-requires-clause-rows : goal.all_tests-requires-clause-rows
 all_tests-requires-clause-rows c =
     let f = c.args.machine.now in
     let rows = c.args.table.now.rows.items in
-    subst (λ (rs : List (List Move)). AreRows rs) (sym c.deref-2.ensures.value) (are_rows f rows c.name.ensures.checked c.requires.table c.requires.few)
+    subst (λ (rs : List (List Move)). AreRows rs) (sym c.deref-4.ensures.value) (are_rows f rows c.name.ensures.checked c.requires.table c.requires.few)
 
 pub all_tests-requires-clause-vectors : goal.all_tests-requires-clause-vectors
 all_tests-requires-clause-vectors c =
     let f = c.args.machine.now in
     let rows = c.args.table.now.rows.items in
-    ap (λ (vs : List (List Bool)). length vs) (c.deref-4.ensures.value ∙ c.requires.vectors)
+    ap (λ (vs : List (List Bool)). length vs) (c.deref-7.ensures.value ∙ c.requires.vectors)
     ∙ made_length (picked f.clock f.ports) (word (read_marks f)) (vectors_read f)
     ∙ sym (vectors_are f rows c.name.ensures.checked c.requires.table)
-    ∙ ap (λ (rs : List (List Move)). vectors_of rs) (sym c.deref-2.ensures.value)
+    ∙ ap (λ (rs : List (List Move)). vectors_of rs) (sym c.deref-4.ensures.value)
 
 pub merged_machine-requires : goal.merged_machine-requires
 merged_machine-requires c =
@@ -61,9 +67,9 @@ returns c =
     let of : AreLevels rows levels = subst (λ (rs : List (List Move)). AreLevels rs levels) c.deref.ensures.value c.in_ok-levels.ensures.levels in
     let stable : IsStable rows levels = subst (λ (rs : List (List Move)). IsStable rs levels) c.deref.ensures.value c.in_ok-levels.ensures.stable in
     let all : AreAllTests rows levels vectors tests =
-    subst (λ (rs : List (List Move)). AreAllTests rs levels vectors tests) c.deref-2.ensures.value
-    (subst (λ (ls : List Partition). AreAllTests c.deref-2.result.now ls vectors tests) c.deref-3.ensures.value
-    (subst (λ (vs : List (List Bool)). AreAllTests c.deref-2.result.now c.deref-3.result.now vs tests) c.deref-4.ensures.value c.in_ok-tests.ensures)) in
+    subst (λ (rs : List (List Move)). AreAllTests rs levels vectors tests) c.deref-4.ensures.value
+    (subst (λ (ls : List Partition). AreAllTests c.deref-4.result.now ls vectors tests) c.deref-5.ensures.value
+    (subst (λ (vs : List (List Bool)). AreAllTests c.deref-4.result.now c.deref-5.result.now vs tests) c.deref-7.ensures.value c.in_ok-tests.ensures)) in
     let last = taken_last levels c.pop.new.self.items c.in-Some.last c.in-Some.ensures.items in
     let made : c.in_ok-fsm.fsm ≡ merged_fsm f c.in-Some.last.state_of c.in-Some.last.kept =
     c.in_ok-fsm.ensures
