@@ -50,14 +50,19 @@ def measure(program, name, seconds, steps):
     print(f"{name}: {line}")
     before, missed = None, 0
     for number in numbers[:steps]:
-        files = {**of_cells(FIVE), **make(number)}
+        library, made = of_cells(FIVE), make(number)
+        files = {**library, **made}
         with tempfile.TemporaryDirectory(prefix="hostile-") as folder:
             for file, text in files.items():
                 path = pathlib.Path(folder) / file
                 path.parent.mkdir(exist_ok=True)
                 path.write_bytes(text)
-            status, took, megabytes = run(program, line.split(), folder, seconds)
-        size = sum(map(len, make(number).values()))
+            *earlier, last = line.split(" && ")
+            for words in earlier:
+                run(program, words.split(), folder, 10 * seconds)
+            given = [it for it in pathlib.Path(folder).rglob("*") if it.is_file()]
+            size = sum(it.stat().st_size for it in given if (file := str(it.relative_to(folder))) in made or file not in library)
+            status, took, megabytes = run(program, last.split(), folder, seconds)
         slower, larger = (growth(before[k], (took, megabytes)[k], before[2], size) if before else None for k in (0, 1))
         shown = "cut off" if status is None else status
         cells = told(took, MOST_SECONDS), told(megabytes, MOST_MEGABYTES), told(slower, MOST_GROWTH, took > TELLING_SECONDS)

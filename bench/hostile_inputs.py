@@ -308,6 +308,8 @@ FAMILIES = {
         "connectors of one port": ports_of_one_name, "marks": marks_of_one_point}.items()},
     **{f"{tool}, one net": (f"{tool} s.vst {OUT}", PINS, one_net) for tool in ("loon", "ocp", "flatbeh")},
     **{f"{tool}, a chain of gates": (f"{tool} s.vst {OUT}", PINS, inverter_chain) for tool in ("loon", "ocp", "flatbeh")},
+    **{f"{tool}, {name}": (f"ocp s.vst -l lib -o p --moves 0 && {tool} s.vst -p p.ap {OUT}", doubled(250, 2000), make)
+       for tool in ("nero", "rip") for name, make in {"one net": one_net, "a chain of gates": inverter_chain}.items()},
     "scapin, flip-flops in a row": (f"scapin s.vst -p s.path {OUT}", PINS, shift_register),
     "scapin, a chain of gates": (f"scapin s.vst -p s.path {OUT}", PINS, with_blank_path(inverter_chain)),
     "flatbeh, a chain backwards": (f"flatbeh s.vst {OUT}", PINS, backward_chain),
