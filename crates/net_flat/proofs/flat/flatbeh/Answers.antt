@@ -27,7 +27,7 @@ unreachable-requires c =
 pub named-requires-clause-free : goal.named-requires-clause-free
 named-requires-clause-free c =
     subst (λ (ns : List Name). AreFree c.in-Ok.machine ns) (sym (c.deref.ensures.value ∙ c.in_ok-names.ensures.names))
-    (are_free c.args.netlist.now c.args.library.now c.in-Ok.machine c.classes.ensures.sound c.requires c.in_ok-names.ensures.plain c.in_ok-names.ensures.apart c.in-Ok.ensures.order)
+    (are_free c.args.netlist.now c.args.library.now c.in-Ok.machine c.classes.ensures.sound c.requires.condition c.in_ok-names.ensures.plain c.in_ok-names.ensures.apart c.in-Ok.ensures.order)
 
 pub named-requires-clause-few : goal.named-requires-clause-few
 named-requires-clause-few c = omega (arith, c.in-Ok.ensures.numbered, c.in-Ok.ensures.few)
