@@ -34,7 +34,7 @@ def run(program, words, folder, seconds):
 
 
 def growth(before, now, size_before, size):
-    if not before or not now or size <= size_before:
+    if not before or not now or size < 1.5 * size_before:
         return None
     return math.exp(math.log(now / before) * math.log(2) / math.log(size / size_before))
 

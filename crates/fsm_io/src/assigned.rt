@@ -41,7 +41,7 @@ impl Sought<'_> {
             Sought::Bit(text, bit) => match assignment {
                 Assignment::Next(_) => false,
                 Assignment::Output(name, _) => {
-                    name.text.as_bytes() == text.as_bytes() && name.bit == bit
+                    name.bit == bit && name.text.as_bytes() == text.as_bytes()
                 }
             },
         }
