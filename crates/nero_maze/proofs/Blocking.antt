@@ -13,13 +13,13 @@ use Rattle.grid_core.specs.Routes.{tree_nodes}
 use Rattle.grid_core.proofs.Numbers.{number-node_of, node_of-number, number_below}
 use Rattle.grid_core.proofs.Owners.{first_or}
 use Rattle.nero_maze.specs.declared.board.Board.{Board}
-use Rattle.nero_maze.specs.Ways.{weight, next}
+use Rattle.nero_maze.specs.Ways.{weight}
 use Rattle.nero_maze.specs.Search.{IsFree, IsOwn, LeadsTo}
-use Rattle.nero_maze.specs.Routing.{routes_of, IsFirstTaken, Blocks}
+use Rattle.nero_maze.specs.Routing.{routes_of, Blocks}
 use Rattle.nero_maze.specs.Board.{moves_of, routing_of, IsSound}
 use Rattle.nero_maze.specs.Ripping.{AreFree, FirstTaken, NoWay, IsBlocked}
 use Rattle.nero_maze.proofs.Neighbours.{facts, move_of}
-use Rattle.nero_maze.proofs.Ties.{table, free_node, free_word, free_first, turned, IsForth, IsKin}
+use Rattle.nero_maze.proofs.Ties.{table, free_node, free_word, free_first, turned, IsKin}
 use Rattle.nero_maze.proofs.Sounds.{from_map, forth_of, comes, no_path}
 
 -- ---- the nodes of a way

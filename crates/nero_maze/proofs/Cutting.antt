@@ -1,11 +1,10 @@
 -- Moves without those that gave a net its paths.
-use Rattle.std.proofs.Common.{ℕ, ◌≡◌, ◌≢◌, inl, inr, List, [], ◌∷◌, ◌++◌, map, Bool, true, false, Option, Some, None, sym, ◌∙◌, ap, refl, subst, nat_eq}
+use Rattle.std.proofs.Common.{ℕ, ◌≡◌, ◌≢◌, inl, inr, List, [], ◌∷◌, ◌++◌, Bool, true, false, Option, Some, None, sym, ◌∙◌, ap, refl, subst, nat_eq}
 use Rattle.std.specs.Prelude.{filter, cond}
 use Rattle.std.proofs.lemmas.Bool.{cases_eq, eq-eqb}
 use Rattle.vlsi_base.specs.Member.{In, here, there}
 use Rattle.grid_core.specs.declared.grid.Node.{Node}
 use Rattle.grid_core.specs.Routes.{Tree, tree_nodes, grown}
-use Rattle.grid_core.proofs.Owners.{first_or}
 use Rattle.nero_maze.specs.Routing.{Move, Began, Joined, routes_of, first_alone}
 use Rattle.nero_maze.specs.Board.{AreBegun}
 use Rattle.nero_maze.proofs.Growth.{test_other, joined_grows, began_grows}

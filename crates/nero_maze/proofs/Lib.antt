@@ -1,6 +1,9 @@
 mod Geometry
 mod Theory
 mod Levels
+mod Slope
+mod Visiting
+mod Holding
 mod Claiming
 mod Neighbours
 mod Ties

@@ -1,7 +1,7 @@
 -- The log gets shorter, and nodes are freed one after another.
 use Rattle.std.proofs.Common.{ℕ, zero, suc, ◌≡◌, ◌≢◌, ◌+◌, ◌<◌, ◌≤◌, ◌⊎◌, inl, inr, List, [], ◌∷◌, length, Bool, true, false, set, slice_index, get_or, arith, sym, ◌∙◌, ap, refl, subst, get_or-set_same, get_or-set_other, length-set, add-one}
 use Rattle.std.specs.Prelude.{filter}
-use Rattle.std.proofs.lemmas.Bool.{cases_eq, cases_lt}
+use Rattle.std.proofs.lemmas.Bool.{cases_eq}
 use Rattle.grid_core.specs.Numbers.{nodes}
 use Rattle.nero_maze.specs.declared.frontier.Room.{Room}
 use Rattle.nero_maze.specs.declared.frontier.Marked.{Marked}

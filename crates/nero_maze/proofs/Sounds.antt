@@ -1,6 +1,7 @@
 -- What a call leaves of the arrays is sound again, and what it did is the move that it promised.
 use Rattle.std.proofs.Common.{ℕ, ◌≡◌, ◌≢◌, ◌+◌, ◌<◌, ◌≤◌, ◌⊎◌, inl, inr, List, [], ◌∷◌, map, length, Option, Some, None, set, slice_index, arith, sym, ◌∙◌, ap, refl, subst, add-one, length-set, get_or-set_same, get_or-set_other}
-use Rattle.std.proofs.lemmas.Bool.{cases_eq}
+use Rattle.std.proofs.lemmas.Bool.{cases_eq, cases_lt}
+use Rattle.std.proofs.lemmas.List.{get_or_past}
 use Rattle.vlsi_base.specs.Member.{In, here, there}
 use Rattle.grid_core.specs.declared.grid.Grid.{Grid}
 use Rattle.grid_core.specs.declared.grid.Node.{Node}
@@ -16,7 +17,7 @@ use Rattle.nero_maze.specs.declared.board.Board.{Board}
 use Rattle.nero_maze.specs.Search.{IsRoom, IsFree, IsOwn, IsIdle, Kept}
 use Rattle.nero_maze.specs.Claims.{LeadsBack, Told, Changed}
 use Rattle.nero_maze.specs.Routing.{Move, Began, Joined, routes_of, IsPoint, Begins, Connects}
-use Rattle.nero_maze.specs.Board.{move_at, moves_in, moves_of, routing_of, AreBegun, IsSound, Logs, Touches, Reaches, IsStuck}
+use Rattle.nero_maze.specs.Board.{move_at, moves_in, moves_of, routing_of, AreBegun, HoldsTree, IsSound, Logs, Touches, Reaches, IsStuck}
 use Rattle.nero_maze.specs.Ripping.{NoWay}
 use Rattle.nero_maze.proofs.Theory.{room, Kept-none}
 use Rattle.nero_maze.proofs.Claiming.{Told-more, changed_more}
@@ -61,6 +62,7 @@ pub record Step (b b' : Board) (net target mark : ℕ) (path : List ℕ) (m : Mo
   pub reserved : b'.reserved ≡ b.reserved
   pub free : (v : ℕ) → In v path → IsFree b.room.owners.items net v
   pub rooted : (v : ℕ) → In v path → slice_index b.room.links.items v ≡ 0 → slice_index b'.room.links.items v ≡ 9 → (v ≡ target) × (mark ≡ 1)
+  pub holds : HoldsTree b'
 
 pub moves_step : (b b' : Board) (net target mark : ℕ) (path : List ℕ) (m : Move) → IsSound b → Step b b' net target mark path m
     → moves_in b.room.grid b'.room.owners.items b'.room.links.items b'.log.marks.items b'.log.order.items b'.log.count ≡ m ∷ moves_of b
@@ -208,6 +210,7 @@ sound_step b b' net target mark path m s t =
                 let kept : slice_index ms' v ≡ slice_index ms v = rw t.log.marks (get_or-set_other ms target v mark 0 ne) in
                 kept ∙ was)
           ];
+      holds = t.holds;
     }
 
 -- the owners as they became
@@ -246,6 +249,7 @@ sound_bare b same room idle log count unlinked =
         fixed = λ v fixed. ap (λ (xs : List ℕ). slice_index xs v) same;
         untaken = λ v z. ap (λ (xs : List ℕ). slice_index xs v) same;
         rooted = λ v nine. (let z = unlinked v in let no : ⊥ = omega arith in absurd no);
+        holds = λ v own. absurd (own.0 (unlinked v));
       },
       none,
     )
@@ -269,12 +273,21 @@ bare_node b net q s none free =
 bare_log : (b : Board) (v : ℕ) → IsSound b → slice_index b.room.links.items v ≡ 0 → slice_index b.log.marks.items v ≡ 0
 bare_log b v s z = elim (cases_eq (slice_index b.log.marks.items v) 0) [ inl e ↦ e | inr nz ↦ absurd (s.linked v nz z) ]
 
+-- and no node is such a net's own
+pub alone : (b : Board) (net : ℕ) → IsSound b → routes_of (moves_of b) net ≡ None → (v : ℕ) → IsOwn b.room.owners.items b.room.links.items net v → ⊥
+alone b net s none v own = elim (cases_lt v (nodes b.room.grid)) [
+  | inr past ↦ (let e = s.room.links in own.0 (get_or_past b.room.links.items v 0 (omega arith)))
+  | inl lt ↦ (
+      let h = s.forth v lt own.0 in
+      let h' = subst (λ (o : Option Tree). In (node_of b.room.grid v) (tree_nodes o)) (ap (routes_of (moves_of b)) own.1 ∙ none) h in elim h' [ ])
+]
+
 pub seated : (b b' : Board) (net : ℕ) (q : Node) → IsSound b → net ≢ 4294967295 → routes_of (moves_of b) net ≡ None
     → owners.IsFree (table b.room.grid b.room.owners.items) net q
     → b'.room.grid ≡ b.room.grid → b'.room.owners.items ≡ set b.room.owners.items (number b.room.grid q) net
     → b'.room.links.items ≡ set b.room.links.items (number b.room.grid q) 9 → Logs (number b.room.grid q) 1 b.log b'.log → b'.frontier ≡ b.frontier → b'.reserved ≡ b.reserved
-    → IsSound b' × Begins net q (routing_of b) (routing_of b')
-seated b b' net q s small none free eg eo el log idle er =
+    → HoldsTree b' → IsSound b' × Begins net q (routing_of b) (routing_of b')
+seated b b' net q s small none free eg eo el log idle er holds =
     let g = b.room.grid in
     let o = b.room.owners.items in
     let l = b.room.links.items in
@@ -313,6 +326,7 @@ seated b b' net q s small none free eg eo el log idle er =
       reserved = er;
       free = λ w i. elim (first_or w v [] i) [ inl e ↦ rw e (free_word g o net q free) | inr h ↦ elim h [ ] ];
       rooted = λ w i unlinked nine. elim (first_or w v [] i) [ inl e ↦ (e, refl) | inr h ↦ elim h [ ] ];
+      holds = holds;
     } in
     let own_all = taken g b'.room.grid net (v ∷ []) o l b'.room.owners.items b'.room.links.items eg small changed in
     (sound_step b b' net v 1 (v ∷ []) m s t, record { moves = rw eg (moves_step b b' net v 1 (v ∷ []) m s t); taken = rw at at own_all; reserved = rw (eg, er) refl })
@@ -352,8 +366,8 @@ forth_of b net s v lt own = subst (λ (k : ℕ). In (node_of b.room.grid v) (tre
 
 pub touched : (b b' : Board) (net c : ℕ) (q : Node) (t : Tree) → IsSound b → routes_of (moves_of b) net ≡ Some t → IsInGrid b.room.grid q
     → slice_index b.log.marks.items (number b.room.grid q) ≡ 0 → IsIdle b'.frontier.order.items b'.frontier.marks.items (nodes b.room.grid) → b'.reserved ≡ b.reserved → Touches net (number b.room.grid q) c b b'
-    → IsSound b' × Connects net q c (routing_of b) (routing_of b') (q ∷ [])
-touched b b' net c q tree s begun hq fresh idle er h =
+    → HoldsTree b' → IsSound b' × Connects net q c (routing_of b) (routing_of b') (q ∷ [])
+touched b b' net c q tree s begun hq fresh idle er h holds =
     let g = b.room.grid in
     let o = b.room.owners.items in
     let l = b.room.links.items in
@@ -392,6 +406,7 @@ touched b b' net c q tree s begun hq fresh idle er h =
       reserved = er;
       free = λ w i. elim (first_or w v [] i) [ inl e ↦ rw e (inr h.own.1) | inr no_more ↦ elim no_more [ ] ];
       rooted = λ w i unlinked nine. elim (first_or w v [] i) [ inl e ↦ absurd (h.own.0 (ap (λ u. slice_index l u) (sym e) ∙ unlinked)) | inr no_more ↦ elim no_more [ ] ];
+      holds = holds;
     } in
     let own_all = taken g b'.room.grid net (v ∷ []) o l b'.room.owners.items b'.room.links.items eg small changed in
     let inside : In q (tree_nodes (routes_of (moves_of b) net)) = subst (λ (n : Node). In n (tree_nodes (routes_of (moves_of b) net))) at (forth_of b net s v below h.own) in (
@@ -458,8 +473,8 @@ told_joins g o l l' net q (p ∷ r ∷ rest) c (k, k4, link, is, told) (free, (w
 
 pub reached : (b b' : Board) (net c : ℕ) (q : Node) (t : Tree) → IsSound b → routes_of (moves_of b) net ≡ Some t → IsInGrid b.room.grid q
     → slice_index b.log.marks.items (number b.room.grid q) ≡ 0 → IsIdle b'.frontier.order.items b'.frontier.marks.items (nodes b.room.grid) → b'.reserved ≡ b.reserved → Reaches net (number b.room.grid q) c b b'
-    → IsSound b' × ((path : List Node) × Connects net q c (routing_of b) (routing_of b') path)
-reached b b' net c q tree s begun hq fresh idle er h =
+    → HoldsTree b' → IsSound b' × ((path : List Node) × Connects net q c (routing_of b) (routing_of b') path)
+reached b b' net c q tree s begun hq fresh idle er h holds =
     let g = b.room.grid in
     let o = b.room.owners.items in
     let l = b.room.links.items in
@@ -494,6 +509,7 @@ reached b b' net c q tree s begun hq fresh idle er h =
       reserved = er;
       free = leads_free g o l net v rest c claimed.leads;
       rooted = λ w i unlinked nine. absurd (told_joins g o l b'.room.links.items net v rest c claimed.told claimed.leads w i unlinked nine);
+      holds = holds;
     } in
     let own_all = taken g b'.room.grid net (v ∷ rest) o l b'.room.owners.items b'.room.links.items claimed.grid small claimed.changed in
     let lead = leads_nodes g o l net (tree_nodes (routes_of (moves_of b) net)) (forth_of b net s) v rest c below claimed.leads in (
@@ -528,8 +544,8 @@ stuck b b' net q s hq h = no_path b b.room.owners.items net q s (own_kin b.room.
 
 -- nothing changed
 pub sound_same : (b b' : Board) → IsSound b → IsIdle b'.frontier.order.items b'.frontier.marks.items (nodes b.room.grid) → b'.reserved ≡ b.reserved → b'.room ≡ b.room
-    → b'.log ≡ b.log → IsSound b' × (routing_of b' ≡ routing_of b)
-sound_same b b' s idle ef er el = (
+    → b'.log ≡ b.log → HoldsTree b' → IsSound b' × (routing_of b' ≡ routing_of b)
+sound_same b b' s idle ef er el holds = (
   record {
     room = rw er s.room;
     idle = rw er idle;
@@ -545,6 +561,7 @@ sound_same b b' s idle ef er el = (
     fixed = rw (ef, er) s.fixed;
     untaken = rw (ef, er) s.untaken;
     rooted = rw (er, el) s.rooted;
+    holds = holds;
   },
   rw (er, el, ef) refl,
 )
@@ -569,11 +586,11 @@ some_tree (Some t) ne = (t, refl)
 pub connected : (b b' : Board) (net c : ℕ) (q : Node) → IsSound b → routes_of (moves_of b) net ≢ None → IsInGrid b.room.grid q
     → (IsPoint (routes_of (moves_of b) net) q → ⊥) → IsIdle b'.frontier.order.items b'.frontier.marks.items (nodes b.room.grid) → b'.reserved ≡ b.reserved
     → Touches net (number b.room.grid q) c b b' ⊎ Reaches net (number b.room.grid q) c b b'
-    → IsSound b' × ((path : List Node) × Connects net q c (routing_of b) (routing_of b') path)
-connected b b' net c q s begun hq new idle er (inl h) =
+    → HoldsTree b' → IsSound b' × ((path : List Node) × Connects net q c (routing_of b) (routing_of b') path)
+connected b b' net c q s begun hq new idle er (inl h) holds =
     let (t, is) = some_tree (routes_of (moves_of b) net) begun in
     let z = unmarked_own b net (number b.room.grid q) (unlogged b net q s hq new) h.own.1 in
-    let r = touched b b' net c q t s is hq z idle er h in (r.0, (q ∷ [], r.1))
-connected b b' net c q s begun hq new idle er (inr h) =
+    let r = touched b b' net c q t s is hq z idle er h holds in (r.0, (q ∷ [], r.1))
+connected b b' net c q s begun hq new idle er (inr h) holds =
     let (t, is) = some_tree (routes_of (moves_of b) net) begun in
-    reached b b' net c q t s is hq (unmarked_free b net (number b.room.grid q) s h.free h.outside) idle er h
+    reached b b' net c q t s is hq (unmarked_free b net (number b.room.grid q) s h.free h.outside) idle er h holds

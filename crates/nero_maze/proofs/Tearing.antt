@@ -1,5 +1,5 @@
 -- A net's paths are taken out of the arrays.
-use Rattle.std.proofs.Common.{ℕ, zero, suc, ◌≡◌, ◌≢◌, ◌+◌, ◌<◌, ◌≤◌, ◌⊎◌, inl, inr, List, [], ◌∷◌, map, length, Bool, true, false, Option, Some, None, slice_index, arith, sym, ◌∙◌, ap, refl, subst, nat_eq}
+use Rattle.std.proofs.Common.{ℕ, zero, suc, ◌≡◌, ◌≢◌, ◌<◌, ◌≤◌, ◌⊎◌, inl, inr, List, [], ◌∷◌, map, length, Bool, true, false, Option, Some, None, slice_index, arith, sym, ◌∙◌, ap, refl, subst, nat_eq}
 use Rattle.std.specs.Prelude.{filter, cond}
 use Rattle.std.proofs.lemmas.Bool.{cases_eq, eq-eqb}
 use Rattle.vlsi_base.specs.Member.{In, here, there}
@@ -13,13 +13,11 @@ use Rattle.grid_core.proofs.Numbers.{number-node_of, node_of-number, number_belo
 use Rattle.grid_core.proofs.Owners.{first_or}
 use Rattle.nero_maze.specs.declared.board.Board.{Board}
 use Rattle.nero_maze.specs.declared.frontier.Frontier.{Frontier}
-use Rattle.nero_maze.specs.declared.frontier.Room.{Room}
-use Rattle.nero_maze.specs.Ways.{next}
 use Rattle.nero_maze.specs.Search.{IsOwn, IsIdle}
 use Rattle.nero_maze.specs.Claims.{Told}
 use Rattle.nero_maze.specs.Routing.{Move, Began, Joined, routes_of, first_alone, TakesOut}
 use Rattle.nero_maze.specs.Board.{follow, move_at, moves_in, moves_of, routing_of, AreBegun, IsSound}
-use Rattle.nero_maze.specs.Ripping.{IsOnPath, IsFreed, entries, stays, IsShorter, IsTorn}
+use Rattle.nero_maze.specs.Ripping.{IsOnPath, entries, stays, IsTorn}
 use Rattle.nero_maze.proofs.Growth.{follow_told, test_other}
 use Rattle.nero_maze.proofs.Ties.{table}
 use Rattle.nero_maze.proofs.Sounds.{in_map, some_tree}
@@ -368,6 +366,9 @@ module _ (b b' : Board) (net : ℕ) (s : IsSound b) (h : IsTorn net b b') where
             let kept = h.freed.others v (linked_off v some) in
             let was : slice_index l v ≡ 9 = sym kept.1 ∙ nine in
             h.log.same v (stays_root v was) ∙ s.rooted v was;
+        holds = λ v own.
+            let kept = h.freed.others v (linked_off v own.0) in
+            absurd (s.owned v (λ z. own.0 (kept.1 ∙ z)) (sym kept.0 ∙ (own.1 ∙ h.held)));
       }
 
   pub taken_out : routes_of (moves_of b) net ≢ None → TakesOut net (routing_of b) (routing_of b')

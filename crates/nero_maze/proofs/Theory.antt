@@ -1,27 +1,9 @@
 -- Why a search by levels finds the least cost, and finds that there is no path.
-use Rattle.std.proofs.Common.{ℕ, zero, suc, ◌≡◌, ◌≢◌, ◌+◌, ◌-◌, ◌%◌, ◌<◌, ◌≤◌, ◌⊎◌, inl, inr, List, [], ◌∷◌, length, get_or, set, Some, slice_index, arith, sym, ◌∙◌, ap, refl, subst, get_or-set_same, get_or-set_other, length-set, add-one}
+use Rattle.std.proofs.Common.{ℕ, zero, suc, ◌≡◌, ◌≢◌, ◌+◌, ◌-◌, ◌<◌, ◌≤◌, ◌⊎◌, inl, inr, List, [], ◌∷◌, length, get_or, set, Some, slice_index, arith, sym, ◌∙◌, ap, refl, subst, get_or-set_same, get_or-set_other, length-set, add-one}
 use Rattle.std.proofs.lemmas.Bool.{cases_lt, cases_eq}
 use Rattle.grid_core.specs.declared.grid.Grid.{Grid}
 use Rattle.nero_maze.specs.Ways.{next, weight, opposite}
-use Rattle.nero_maze.specs.Search.{IsFree, LeadsTo, NoneBelow, Trace, Kept, Stays, Grown, Reached, zeros}
-
--- What the search knows before level d: entries below `a` are settled for good, those of a..b, b..c and c..n cost d-3, d-2 and d-1.
-abbrev pub IsAtLevel : ℕ → ℕ → ℕ → ℕ → ℕ → ℕ → Type 0
-IsAtLevel a b c d i e =
-    ((i < a) × (e + 4 ≤ d)) ⊎ (((a ≤ i) × (i < b) × (e + 3 ≡ d)) ⊎ (((b ≤ i) × (i < c) × (e + 2 ≡ d)) ⊎ ((c ≤ i) × (e + 1 ≡ d))))
-
-pub record Settled (g : Grid) (owners : List ℕ) (net target : ℕ) (marks : List ℕ) (a b c d i v : ℕ) : Type 0 where
-  pub cost : ℕ
-  pub back : List ℕ
-  pub trace : Trace g owners net marks target v back cost
-  pub size : length back ≤ i
-  pub least : NoneBelow g owners net target v cost
-  pub level : IsAtLevel a b c d i cost
-
--- each path of a cost below d ends at a marked node
-abbrev pub AllMarked : Grid → List ℕ → ℕ → ℕ → List ℕ → ℕ → Type 0
-AllMarked g owners net target marks d =
-    (v : ℕ) (back : List ℕ) (e : ℕ) → LeadsTo g owners net target v back e → e < d → slice_index marks v ≢ 0
+use Rattle.nero_maze.specs.Search.{IsFree, LeadsTo, Trace, Kept, Stays, Grown, Reached, zeros}
 
 pub zeros-set : (xs : List ℕ) (i x : ℕ) → get_or xs i 0 ≡ 0 → i < length xs → zeros (set xs i (suc x)) + 1 ≡ zeros xs
 zeros-set [] i x e h = omega arith
@@ -65,30 +47,6 @@ Trace-more g o n z m m' f v (u ∷ back) c (free, (k, below, is, mark, from, (b,
     let ne : slice_index m v ≢ 0 = omega arith in
     (free, (k, below, is, f v ne ∙ mark, from, (b, Trace-more g o n z m m' f u back b t, e)))
 
--- where no entry is left to go on from, each path ends at a marked node
-pub closed : (g : Grid) (owners : List ℕ) (net target : ℕ) (order marks : List ℕ) (a b c d n : ℕ)
-    → 1 ≤ d → n ≤ a → a ≤ b → b ≤ c
-    → ((v : ℕ) → slice_index marks v ≢ 0 → (i : ℕ) × (i < n) × (slice_index order i ≡ v))
-    → ((i : ℕ) → i < n → Settled g owners net target marks a b c d i (slice_index order i))
-    → AllMarked g owners net target marks d
-    → (v : ℕ) (back : List ℕ) (e : ℕ) → LeadsTo g owners net target v back e → slice_index marks v ≢ 0
-closed g o t s ord m a b c d n d1 na ab bc found settled all v [] e p =
-    let small : e < d = let z = p.1 in omega arith in all v [] e p small
-closed g o t s ord m a b c d n d1 na ab bc found settled all v (u ∷ back) e (free, (k, below, is, (f, p, _))) =
-    let mu = closed g o t s ord m a b c d n d1 na ab bc found settled all u back f p in
-    let at = found u mu in
-    let set_i = settled at.0 at.1 in
-    let i = at.0 in
-    let lt = at.1 in
-    let x = set_i.cost in
-    let small : x + 4 ≤ d =
-    elim set_i.level [ inl h ↦ h.1 | inr (inl h) ↦ (let h0 = h.0 in let h1 = h.1 in omega arith) | inr (inr (inl h)) ↦ (let h0 = h.0 in omega arith) | inr (inr (inr h)) ↦ (let h0 = h.0 in omega arith) ] in
-    let w = weight_most k in
-    let less : x + weight k < d = omega arith in
-    let path_u = leads-trace g o t s m (slice_index ord i) set_i.back x set_i.trace in
-    let is' : next g (slice_index ord i) k ≡ Some v = rw at.2 is in
-    all v (slice_index ord i ∷ set_i.back) (x + weight k) (free, (k, below, is', (x, path_u, refl))) less
-
 -- ---- marks of a level
 pub Stays-on : (a b c : ℕ) → Stays a b → Stays b c → Stays a c
 Stays-on a b c (inl e) (inl f) = inl (f ∙ e)
@@ -105,65 +63,65 @@ still_some a b ne (inl e) = omega arith
 still_some a b ne (inr (x, y)) = omega arith
 
 -- a marked node stays marked
-pub mark_stays : (g : Grid) (o : List ℕ) (t from to low high : ℕ) (ord m : List ℕ) (n : ℕ) (ord' m' : List ℕ) (n' : ℕ)
-    → Grown g o t from to low high ord m n ord' m' n' → (v : ℕ) → slice_index m v ≢ 0 → slice_index m' v ≢ 0
-mark_stays g o t from to low high ord m n ord' m' n' h v ne = still_some (slice_index m v) (slice_index m' v) ne (h.stays v ne)
+pub mark_stays : (g : Grid) (o : List ℕ) (t : ℕ) (h : ℕ → ℕ) (rise from to : ℕ) (ord m : List ℕ) (n : ℕ) (ord' m' : List ℕ) (n' : ℕ)
+    → Grown g o t h rise from to ord m n ord' m' n' → (v : ℕ) → slice_index m v ≢ 0 → slice_index m' v ≢ 0
+mark_stays g o t h rise from to ord m n ord' m' n' gr v ne = still_some (slice_index m v) (slice_index m' v) ne (gr.stays v ne)
 
-pub unmarked_before : (g : Grid) (o : List ℕ) (t from to low high : ℕ) (ord m : List ℕ) (n : ℕ) (ord' m' : List ℕ) (n' : ℕ)
-    → Grown g o t from to low high ord m n ord' m' n' → (v : ℕ) → slice_index m' v ≡ 0 → slice_index m v ≡ 0
-unmarked_before g o t from to low high ord m n ord' m' n' h v z =
-    elim (cases_eq (slice_index m v) 0) [ inl e ↦ e | inr ne ↦ (let e = mark_stays g o t from to low high ord m n ord' m' n' h v ne in absurd (e z)) ]
+pub unmarked_before : (g : Grid) (o : List ℕ) (t : ℕ) (h : ℕ → ℕ) (rise from to : ℕ) (ord m : List ℕ) (n : ℕ) (ord' m' : List ℕ) (n' : ℕ)
+    → Grown g o t h rise from to ord m n ord' m' n' → (v : ℕ) → slice_index m' v ≡ 0 → slice_index m v ≡ 0
+unmarked_before g o t h rise from to ord m n ord' m' n' gr v z =
+    elim (cases_eq (slice_index m v) 0) [ inl e ↦ e | inr ne ↦ (let e = mark_stays g o t h rise from to ord m n ord' m' n' gr v ne in absurd (e z)) ]
 
 -- how an entry was reached is told by later arrays too, where its mark stays
-pub Reached-more : (g : Grid) (o : List ℕ) (t from to low high : ℕ) (ord m : List ℕ) (n : ℕ) (ord' m' : List ℕ) → to ≤ n
+Reached-more : (g : Grid) (o : List ℕ) (t : ℕ) (h : ℕ → ℕ) (rise from to : ℕ) (ord m : List ℕ) (n : ℕ) (ord' m' : List ℕ) → to ≤ n
     → ((i : ℕ) → i < n → slice_index ord' i ≡ slice_index ord i) → (i : ℕ) → i < n → slice_index m' (slice_index ord' i) ≡ slice_index m (slice_index ord' i)
-    → Reached g o t ord m from to low high i → Reached g o t ord' m' from to low high i
-Reached-more g o t from to low high ord m n ord' m' tn prefix i lt same (j, fj, jt, (k, lk, kh, mark, is, from_is, free)) =
+    → Reached g o t h rise ord m from to i → Reached g o t h rise ord' m' from to i
+Reached-more g o t h rise from to ord m n ord' m' tn prefix i lt same (j, fj, jt, (k, k4, mark, is, from_is, free, sum)) =
     let jn : j < n = omega arith in
     let ei = prefix i lt in
     let ej = prefix j jn in
-    (j, fj, jt, (k, lk, kh, same ∙ rw ei mark, rw (ei, ej) is, rw (ei, ej) from_is, rw ei free))
+    (j, fj, jt, (k, k4, same ∙ rw ei mark, rw (ei, ej) is, rw (ei, ej) from_is, rw ei free, rw (ei, ej) sum))
 
-pub Grown-step : (g : Grid) (o : List ℕ) (t from to low high j k : ℕ) (ord m : List ℕ) (n : ℕ) (ord1 m1 : List ℕ) (n1 : ℕ) (ord2 m2 : List ℕ) (n2 : ℕ) → to ≤ n
-    → Grown g o t from to low high ord m n ord1 m1 n1 → Grown g o t j (j + 1) k (k + 1) ord1 m1 n1 ord2 m2 n2
-    → from ≤ j → j < to → low ≤ k → k < high → Grown g o t from to low high ord m n ord2 m2 n2
-Grown-step g o t from to low high j k ord m n ord1 m1 n1 ord2 m2 n2 tn h h2 fj jt lk kh =
-    let more1 = h.more in
-    let more2 = h2.more in
+pub Grown-step : (g : Grid) (o : List ℕ) (t : ℕ) (h : ℕ → ℕ) (rise from to from' to' : ℕ) (ord m : List ℕ) (n : ℕ) (ord1 m1 : List ℕ) (n1 : ℕ) (ord2 m2 : List ℕ) (n2 : ℕ) → to ≤ n
+    → Grown g o t h rise from to ord m n ord1 m1 n1 → Grown g o t h rise from' to' ord1 m1 n1 ord2 m2 n2
+    → from ≤ from' → to' ≤ to → Grown g o t h rise from to ord m n ord2 m2 n2
+Grown-step g o t h rise from to from' to' ord m n ord1 m1 n1 ord2 m2 n2 tn gr gr2 ff tt' =
+    let more1 = gr.more in
+    let more2 = gr2.more in
     record {
       more = omega arith;
-      size = h2.size ∙ h.size;
-      prefix = λ i lt. let lt1 : i < n1 = omega arith in h2.prefix i lt1 ∙ h.prefix i lt;
-      stays = λ v ne. Stays-on (slice_index m v) (slice_index m1 v) (slice_index m2 v) (h.stays v ne) (h2.stays v (mark_stays g o t from to low high ord m n ord1 m1 n1 h v ne));
+      size = gr2.size ∙ gr.size;
+      prefix = λ i lt. let lt1 : i < n1 = omega arith in gr2.prefix i lt1 ∙ gr.prefix i lt;
+      stays = λ v ne. Stays-on (slice_index m v) (slice_index m1 v) (slice_index m2 v) (gr.stays v ne) (gr2.stays v (mark_stays g o t h rise from to ord m n ord1 m1 n1 gr v ne));
       fresh = λ i ni lt. elim (cases_lt i n1) [
         | inl l1 ↦ (
-            let f = h.fresh i ni l1 in
+            let f = gr.fresh i ni l1 in
             let f1 = f.1 in
             let ne : slice_index m1 (slice_index ord1 i) ≢ 0 = omega arith in
-            let p = h2.prefix i l1 in
-            (rw p f.0, rw p (still_fresh (slice_index m1 (slice_index ord1 i)) (slice_index m2 (slice_index ord1 i)) f1 (h2.stays (slice_index ord1 i) ne))))
-        | inr g1 ↦ (let f = h2.fresh i g1 lt in (unmarked_before g o t from to low high ord m n ord1 m1 n1 h (slice_index ord2 i) f.0, f.1))
+            let p = gr2.prefix i l1 in
+            (rw p f.0, rw p (still_fresh (slice_index m1 (slice_index ord1 i)) (slice_index m2 (slice_index ord1 i)) f1 (gr2.stays (slice_index ord1 i) ne))))
+        | inr g1 ↦ (let f = gr2.fresh i g1 lt in (unmarked_before g o t h rise from to ord m n ord1 m1 n1 gr (slice_index ord2 i) f.0, f.1))
       ];
-      reached = λ i lt fresh. elim (h2.reached i lt fresh) [
+      reached = λ i lt fresh. elim (gr2.reached i lt fresh) [
         | inl r ↦ (
-            let (j', a1, a2, (k', b1, b2, mark, is, from_is, free)) = r in
-            inl (j', omega arith, omega arith, (k', omega arith, omega arith, mark, is, from_is, free)))
+            let (j', a1, a2, (k', k4, mark, is, from_is, free, sum)) = r in
+            inl (j', omega arith, omega arith, (k', k4, mark, is, from_is, free, sum)))
         | inr r ↦ (
             let l1 = r.0 in
             let same = r.1 in
-            let p = h2.prefix i l1 in
+            let p = gr2.prefix i l1 in
             let here : 8 < slice_index m1 (slice_index ord2 i) = omega arith in
             let fresh1 : 8 < slice_index m1 (slice_index ord1 i) = subst (λ (x : ℕ). 8 < slice_index m1 x) p here in
-            elim (h.reached i l1 fresh1) [
-              | inl r1 ↦ inl (Reached-more g o t from to low high ord1 m1 n1 ord2 m2 (omega arith) h2.prefix i l1 same r1)
+            elim (gr.reached i l1 fresh1) [
+              | inl r1 ↦ inl (Reached-more g o t h rise from to ord1 m1 n1 ord2 m2 (omega arith) gr2.prefix i l1 same r1)
               | inr r0 ↦ inr (r0.0, same ∙ rw p r0.1)
             ])
       ];
     }
 
 -- nothing added
-pub Grown-none : (g : Grid) (o : List ℕ) (t from to low high : ℕ) (ord m : List ℕ) (n : ℕ) → Grown g o t from to low high ord m n ord m n
-Grown-none g o t from to low high ord m n =
+pub Grown-none : (g : Grid) (o : List ℕ) (t : ℕ) (h : ℕ → ℕ) (rise from to : ℕ) (ord m : List ℕ) (n : ℕ) → Grown g o t h rise from to ord m n ord m n
+Grown-none g o t h rise from to ord m n =
     record {
       more = omega arith;
       size = refl;
@@ -220,11 +178,12 @@ Kept-more ord m n to way kept lt z =
           ];
     }
 
-pub Grown-one : (g : Grid) (o : List ℕ) (t at way : ℕ) (ord m : List ℕ) (n to : ℕ) → Kept ord m n
+pub Grown-one : (g : Grid) (o : List ℕ) (t : ℕ) (h : ℕ → ℕ) (rise at way : ℕ) (ord m : List ℕ) (n to : ℕ) → Kept ord m n
     → at < n → to < length m → slice_index m to ≡ 0 → next g (slice_index ord at) way ≡ Some to
-    → next g to (opposite way) ≡ Some (slice_index ord at) → IsFree o t to
-    → Grown g o t at (at + 1) way (way + 1) ord m n (set ord n to) (set m to (way + 9)) (n + 1)
-Grown-one g o t at way ord m n to kept at_lt lt z is back free =
+    → next g to (opposite way) ≡ Some (slice_index ord at) → IsFree o t to → way < 4
+    → weight way + h to ≡ rise + h (slice_index ord at)
+    → Grown g o t h rise at (at + 1) ord m n (set ord n to) (set m to (way + 9)) (n + 1)
+Grown-one g o t h rise at way ord m n to kept at_lt lt z is back free w4 sum =
     let len = kept.same in
     let n_lt : n < length ord = let r = room ord m n to kept lt z in omega arith in
     let same_n = get_or-set_same ord n to 0 n_lt in
@@ -244,12 +203,12 @@ Grown-one g o t at way ord m n to kept at_lt lt z is back free =
           omega arith,
           (
             way,
-            omega arith,
-            omega arith,
+            w4,
             rw (e, same_n) same_to,
             rw (e, same_n, same_at) is,
             rw (e, same_n, same_at) back,
             rw (e, same_n) free,
+            rw (e, same_n, same_at) sum,
           ),
         )
         | inr ne ↦ (
@@ -288,11 +247,12 @@ Kept-again ord m n to x kept lt ne =
       apart = kept.apart;
     }
 
-pub Grown-again : (g : Grid) (o : List ℕ) (t at way : ℕ) (ord m : List ℕ) (n to : ℕ)
+Grown-again : (g : Grid) (o : List ℕ) (t : ℕ) (h : ℕ → ℕ) (rise at way : ℕ) (ord m : List ℕ) (n to : ℕ)
     → at < n → to < length m → 8 < slice_index m to → next g (slice_index ord at) way ≡ Some to
-    → next g to (opposite way) ≡ Some (slice_index ord at) → IsFree o t to
-    → Grown g o t at (at + 1) way (way + 1) ord m n ord (set m to (way + 9)) n
-Grown-again g o t at way ord m n to at_lt lt fresh is back free =
+    → next g to (opposite way) ≡ Some (slice_index ord at) → IsFree o t to → way < 4
+    → weight way + h to ≡ rise + h (slice_index ord at)
+    → Grown g o t h rise at (at + 1) ord m n ord (set m to (way + 9)) n
+Grown-again g o t h rise at way ord m n to at_lt lt fresh is back free w4 sum =
     let same_to = get_or-set_same m to (way + 9) 0 lt in
     record {
       more = omega arith;
@@ -304,55 +264,21 @@ Grown-again g o t at way ord m n to at_lt lt fresh is back free =
       ];
       fresh = λ i ni lt. (let no : ⊥ = omega arith in absurd no);
       reached = λ i below high. elim (cases_eq (slice_index ord i) to) [
-        | inl e ↦ inl (at, omega arith, omega arith, (way, omega arith, omega arith, rw e same_to, rw e is, rw e back, rw e free))
+        | inl e ↦ inl (at, omega arith, omega arith, (way, w4, rw e same_to, rw e is, rw e back, rw e free, rw e sum))
         | inr other ↦ inr (below, get_or-set_other m to (slice_index ord i) (way + 9) 0 other)
       ];
     }
 
-pub Grown-prefer : (g : Grid) (o : List ℕ) (t at way mark : ℕ) (ord m : List ℕ) (n to : ℕ) (ord' m' : List ℕ) (n' : ℕ)
+pub Grown-prefer : (g : Grid) (o : List ℕ) (t : ℕ) (h : ℕ → ℕ) (rise at way mark : ℕ) (ord m : List ℕ) (n to : ℕ) (ord' m' : List ℕ) (n' : ℕ)
     → at < n → to < length m → 8 < slice_index m to → next g (slice_index ord at) way ≡ Some to
-    → next g to (opposite way) ≡ Some (slice_index ord at) → IsFree o t to → mark ≡ way + 9
+    → next g to (opposite way) ≡ Some (slice_index ord at) → IsFree o t to → way < 4
+    → weight way + h to ≡ rise + h (slice_index ord at) → mark ≡ way + 9
     → ord' ≡ ord → n' ≡ n → (m' ≡ m) ⊎ (m' ≡ set m to mark)
-    → Grown g o t at (at + 1) way (way + 1) ord m n ord' m' n'
-Grown-prefer g o t at way mark ord m n to ord' m' n' at_lt lt fresh is back free nine eo en either = rw (eo, en) (elim either [
-  | inl e ↦ rw e (Grown-none g o t at (at + 1) way (way + 1) ord m n)
-  | inr e ↦ rw (e, nine) (Grown-again g o t at way ord m n to at_lt lt fresh is back free)
+    → Grown g o t h rise at (at + 1) ord m n ord' m' n'
+Grown-prefer g o t h rise at way mark ord m n to ord' m' n' at_lt lt fresh is back free w4 sum nine eo en either = rw (eo, en) (elim either [
+  | inl e ↦ rw e (Grown-none g o t h rise at (at + 1) ord m n)
+  | inr e ↦ rw (e, nine) (Grown-again g o t h rise at way ord m n to at_lt lt fresh is back free w4 sum)
 ])
-
--- one mark more is settled
-pub record Settles (ord m0 m : List ℕ) (n from i : ℕ) : Type 0 where
-  pub kept : Kept ord m n
-  pub either : (v : ℕ) → (slice_index m v ≡ slice_index m0 v) ⊎ (slice_index m v ≡ slice_index m0 v % 8)
-  pub done : (k : ℕ) → from ≤ k → k < i → slice_index m (slice_index ord k) ≡ slice_index m0 (slice_index ord k) % 8
-
-pub settle_one : (ord m0 m : List ℕ) (n from i node x : ℕ) → Settles ord m0 m n from i → ((v : ℕ) → slice_index m0 v ≢ 0 → slice_index m0 v % 8 ≢ 0)
-    → i < n → slice_index ord i ≡ node → slice_index m node ≡ x → Settles ord m0 (set m node (x % 8)) n from (i + 1)
-settle_one ord m0 m n from i node x h live lt at is =
-    let lt_m : node < length m = subst (λ (v : ℕ). v < length m) at (h.kept.listed i lt) in
-    let ne : slice_index m node ≢ 0 = subst (λ (v : ℕ). slice_index m v ≢ 0) at (h.kept.marked i lt) in
-    let same : x % 8 ≡ slice_index m0 node % 8 = elim (h.either node) [ inl e ↦ omega arith | inr e ↦ omega arith ] in
-    let some : slice_index m0 node ≢ 0 = elim (h.either node) [ inl e ↦ omega arith | inr e ↦ omega arith ] in
-    let left = live node some in
-    let less : x % 8 - 1 + 1 ≡ x % 8 = omega arith in
-    let kept = Kept-again ord m n node (x % 8 - 1) h.kept lt_m ne in
-    let new = get_or-set_same m node (x % 8) 0 lt_m in
-    record {
-      kept = subst (λ (y : ℕ). Kept ord (set m node y) n) less kept;
-      either = λ v. elim (cases_eq v node) [
-        | inl e ↦ inr (rw e (new ∙ same))
-        | inr other ↦ elim (h.either v) [
-          | inl a ↦ inl (get_or-set_other m node v (x % 8) 0 other ∙ a)
-          | inr a ↦ inr (get_or-set_other m node v (x % 8) 0 other ∙ a)
-        ]
-      ];
-      done = λ k fk ki. elim (cases_eq (slice_index ord k) node) [
-        | inl e ↦ rw e (new ∙ same)
-        | inr other ↦ (
-            let k_ne : k ≢ i = λ e. other (ap (λ (j : ℕ). slice_index ord j) e ∙ at) in
-            let less_k : k < i = omega arith in
-            get_or-set_other m node (slice_index ord k) (x % 8) 0 other ∙ h.done k fk less_k)
-      ];
-    }
 
 -- where the walk goes from a node that is not the target
 pub trace_step : (g : Grid) (o : List ℕ) (t : ℕ) (m : List ℕ) (z v : ℕ) (rest : List ℕ) (c : ℕ) → Trace g o t m z v rest c → slice_index m v ≢ 5

@@ -1,5 +1,5 @@
 -- A walk along the way that a search found, up to the first node that isn't free.
-use Rattle.std.proofs.Common.{ℕ, ◌≡◌, ◌≢◌, ◌+◌, ◌-◌, ◌<◌, ◌≤◌, inl, inr, List, [], ◌∷◌, Some, slice_index, arith, sym, ◌∙◌, ap, refl, subst}
+use Rattle.std.proofs.Common.{ℕ, ◌≡◌, ◌≢◌, ◌+◌, ◌-◌, ◌<◌, ◌≤◌, inl, inr, List, [], ◌∷◌, Some, slice_index, arith, sym, ◌∙◌, ap, subst}
 use Rattle.grid_core.specs.declared.grid.Grid.{Grid}
 use Rattle.grid_core.specs.Numbers.{nodes}
 use Rattle.nero_maze.specs.declared.board.Board.{Board}

@@ -10,6 +10,7 @@ use Rattle.nero_maze.specs.declared.board.Board.{Board}
 use Rattle.nero_maze.specs.declared.frontier.Marked.{Marked}
 use Rattle.nero_maze.specs.Ways.{next}
 use Rattle.nero_maze.specs.Search.{IsRoom, IsFree, IsOwn, IsIdle, Kept, LeadsTo, NoneBelow}
+use Rattle.nero_maze.specs.Hulls.{Holds}
 use Rattle.nero_maze.specs.Claims.{Told, Claimed}
 use Rattle.nero_maze.specs.Routing.{Move, Began, Joined, routes_of, Routing}
 
@@ -54,6 +55,10 @@ AreBegun [] = Unit {0}
 AreBegun (Began k q ∷ before) = (routes_of before k ≡ None) × AreBegun before
 AreBegun (Joined k path ∷ before) = ((t : Tree) × (routes_of before k ≡ Some t)) × AreBegun before
 
+-- the hull holds the tree of its net
+abbrev pub HoldsTree : Board → Type 0
+HoldsTree b = Holds b.room.grid b.hull b.room.owners.items b.room.links.items b.held
+
 -- what is true of the arrays between two calls
 pub record IsSound (b : Board) : Type 0 where
   pub room : IsRoom b.room
@@ -73,6 +78,7 @@ pub record IsSound (b : Board) : Type 0 where
   pub fixed : (v : ℕ) → slice_index b.reserved.items v ≢ 4294967295 → slice_index b.room.owners.items v ≡ slice_index b.reserved.items v
   pub untaken : (v : ℕ) → slice_index b.room.links.items v ≡ 0 → slice_index b.room.owners.items v ≡ slice_index b.reserved.items v
   pub rooted : (v : ℕ) → slice_index b.room.links.items v ≡ 9 → slice_index b.log.marks.items v ≡ 1
+  pub holds : HoldsTree b
 
 -- the log got one node more
 pub record Logs (v mark : ℕ) (old new : Marked) : Type 0 where

@@ -1,5 +1,7 @@
 pub mod Ways
 pub mod Search
+pub mod Hulls
+pub mod Levels
 pub mod Claims
 pub mod Routing
 pub mod Board

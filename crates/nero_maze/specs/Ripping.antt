@@ -1,6 +1,5 @@
 -- Paths that are taken out, and nets that stand in a way: what the arrays become and say.
 use Rattle.std.specs.Prelude.{ℕ, zero, suc, ◌≡◌, ◌≢◌, ◌+◌, ◌<◌, ◌⊎◌, Bool, true, length, List, [], ◌∷◌, filter, cond, nat_eq, slice_index, slice_set}
-use Rattle.grid_core.specs.declared.grid.Grid.{Grid}
 use Rattle.grid_core.specs.Numbers.{nodes}
 use Rattle.nero_maze.specs.declared.board.Board.{Board}
 use Rattle.nero_maze.specs.declared.frontier.Marked.{Marked}
@@ -60,6 +59,7 @@ pub record IsTorn (net : ℕ) (old new : Board) : Type 0 where
   pub log : IsShorter net old.room old.log new.log
   pub frontier : new.frontier ≡ old.frontier
   pub reserved : new.reserved ≡ old.reserved
+  pub held : new.held ≡ 4294967295
 
 -- ---- what stands in a way
 

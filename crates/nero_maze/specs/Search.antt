@@ -44,21 +44,23 @@ pub record Kept (order marks : List ℕ) (n : ℕ) : Type 0 where
   pub found : (v : ℕ) → slice_index marks v ≢ 0 → (i : ℕ) × (i < n) × (slice_index order i ≡ v)
   pub apart : (i j : ℕ) → i < j → j < n → slice_index order i ≢ slice_index order j
 
--- Entry `i` was reached at this level, from an entry of from..to, on a way of low..high: its mark is nine more than the way.
-abbrev pub Reached : Grid → List ℕ → ℕ → List ℕ → List ℕ → ℕ → ℕ → ℕ → ℕ → ℕ → Type 0
-Reached g owners net order marks from to low high i =
-    (j : ℕ) × (from ≤ j) × (j < to) × ((k : ℕ) × (low ≤ k) × (k < high)
+-- Entry `i` was reached at this level, from an entry of from..to, on a way whose cost and the bound `h` there are `rise` more than the
+-- bound at that entry: its mark is nine more than the way.
+abbrev pub Reached : Grid → List ℕ → ℕ → (ℕ → ℕ) → ℕ → List ℕ → List ℕ → ℕ → ℕ → ℕ → Type 0
+Reached g owners net h rise order marks from to i =
+    (j : ℕ) × (from ≤ j) × (j < to) × ((k : ℕ) × (k < 4)
     × (slice_index marks (slice_index order i) ≡ k + 9)
     × (next g (slice_index order j) k ≡ Some (slice_index order i))
     × (next g (slice_index order i) (opposite k) ≡ Some (slice_index order j))
-    × IsFree owners net (slice_index order i))
+    × IsFree owners net (slice_index order i)
+    × (weight k + h (slice_index order i) ≡ rise + h (slice_index order j)))
 
 -- a mark stays, or is of this level before and after
 abbrev pub Stays : ℕ → ℕ → Type 0
 Stays mark mark' = (mark' ≡ mark) ⊎ ((8 < mark) × (8 < mark'))
 
 -- What a part of the search adds. Marks of this level may be written anew.
-pub record Grown (g : Grid) (owners : List ℕ) (net : ℕ) (from to low high : ℕ)
+pub record Grown (g : Grid) (owners : List ℕ) (net : ℕ) (h : ℕ → ℕ) (rise from to : ℕ)
     (order marks : List ℕ) (n : ℕ) (order' marks' : List ℕ) (n' : ℕ) : Type 0 where
   pub more : n ≤ n'
   pub size : length marks' ≡ length marks
@@ -66,13 +68,14 @@ pub record Grown (g : Grid) (owners : List ℕ) (net : ℕ) (from to low high : 
   pub stays : (v : ℕ) → slice_index marks v ≢ 0 → Stays (slice_index marks v) (slice_index marks' v)
   pub fresh : (i : ℕ) → n ≤ i → i < n' → (slice_index marks (slice_index order' i) ≡ 0) × (8 < slice_index marks' (slice_index order' i))
   pub reached : (i : ℕ) → i < n' → 8 < slice_index marks' (slice_index order' i)
-      → Reached g owners net order' marks' from to low high i
+      → Reached g owners net h rise order' marks' from to i
       ⊎ ((i < n) × (slice_index marks' (slice_index order' i) ≡ slice_index marks (slice_index order' i)))
 
--- Each free neighbour of entry `j` on way `k` has a mark.
-abbrev pub IsSpread : Grid → List ℕ → ℕ → List ℕ → List ℕ → ℕ → ℕ → Type 0
-IsSpread g owners net order marks j k =
-    (v : ℕ) → next g (slice_index order j) k ≡ Some v → IsFree owners net v → slice_index marks v ≢ 0
+-- Each free neighbour of entry `j` on way `k`, at this rise, has a mark.
+abbrev pub IsSpread : Grid → List ℕ → ℕ → (ℕ → ℕ) → ℕ → List ℕ → List ℕ → ℕ → ℕ → Type 0
+IsSpread g owners net h rise order marks j k =
+    (v : ℕ) → next g (slice_index order j) k ≡ Some v → weight k + h v ≡ rise + h (slice_index order j) → IsFree owners net v
+    → slice_index marks v ≢ 0
 
 -- there is an owner and a link for each node
 pub record IsRoom (r : Room) : Type 0 where

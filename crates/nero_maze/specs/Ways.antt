@@ -1,7 +1,8 @@
 -- The four ways from a node to its neighbours, by number.
-use Rattle.std.specs.Prelude.{ℕ, zero, suc, ◌+◌, ◌-◌, ◌*◌, ◌/◌, ◌%◌, Option, Some, None, cond, nat_eq, nat_lt}
+use Rattle.std.specs.Prelude.{ℕ, zero, suc, ◌+◌, ◌-◌, ◌*◌, ◌/◌, ◌%◌, ◌<◌, Option, Some, None, cond, nat_eq, nat_lt}
 use Rattle.grid_core.specs.declared.grid.Grid.{Grid}
 use Rattle.grid_core.specs.Numbers.{plane}
+use Rattle.nero_maze.specs.declared.way.Place.{Place}
 
 -- a step costs 1 (ways 0 and 1), a via 3 (ways 2 and 3)
 abbrev pub weight : ℕ → ℕ
@@ -36,3 +37,9 @@ next_at g l r c (suc (suc (suc k))) = cond (nat_lt 0 l) (Some (number_at g (l - 
 -- the neighbour of a numbered node
 unfoldable pub next : Grid → ℕ → ℕ → Option ℕ
 next g u k = next_at g (u / plane g) (u % plane g / g.columns) (u % plane g % g.columns) k
+
+-- the place is one of the grid's
+pub record IsPlace (g : Grid) (p : Place) : Type 0 where
+  pub layer : p.layer < g.metals - 1
+  pub row : p.row < g.rows
+  pub column : p.column < g.columns

@@ -1,12 +1,14 @@
 // The arrays of a router.
-ghost use Rattle.std.specs.Prelude.{◌≡◌, ◌≢◌, ◌<◌, ◌⊎◌, IfNone, IfSome, slice_index, slice_set};
+ghost use Rattle.std.specs.Prelude.{◌≡◌, ◌≢◌, ◌<◌, ◌⊎◌, ℕ, IfNone, IfSome, slice_index, slice_set};
 ghost use Rattle.grid_core.specs.Numbers.{nodes};
 ghost use Rattle.nero_maze.specs.Search.{IsIdle, IsOwn};
-ghost use Rattle.nero_maze.specs.Board.{IsSound, Logs, Touches, Reaches, IsStuck};
+ghost use Rattle.nero_maze.specs.Board.{IsSound, HoldsTree, Logs, Touches, Reaches, IsStuck};
+ghost use Rattle.nero_maze.specs.Hulls.{Holds};
 ghost use Rattle.nero_maze.specs.Ripping.{IsTorn, NoWay, IsBlocked};
 
 use crate::claim::claim;
 use crate::frontier::{Frontier, Marked, Room, clear, push};
+use crate::hull::{Hull, hull_of_tree, nowhere, with_node};
 use crate::search::search;
 use crate::tear::{drop_moves, free_paths};
 use crate::trace::{first_taken, is_free};
@@ -19,13 +21,16 @@ const REACHED: u8 = 1;
 /// The mark of one that was in the net's tree already.
 pub(crate) const TOUCHED: u8 = 2;
 
-/// All arrays: 19 bytes a node, and three for each penalty. `reserved` has the owners of nodes before any tree began.
+/// All arrays: 19 bytes a node, and three for each penalty. `reserved` has the owners of nodes before any tree began, and `hull` holds
+/// the tree of net `held`.
 #[derive(Drop)]
 pub(crate) struct Board {
     pub(crate) room: Room,
     pub(crate) reserved: Vec<u32>,
     pub(crate) frontier: Frontier,
     pub(crate) log: Marked,
+    pub(crate) hull: Hull,
+    pub(crate) held: u32,
 }
 
 /// Begins the net's tree at a node that is free for it.
@@ -33,16 +38,32 @@ pub(crate) fn root(board: &mut Board, net: u32, node: u32)
     requires sound { IsSound board.old }
     requires node { node < nodes board.old.room.grid }
     requires bare { slice_index board.old.room.links.items node ≡ 0 }
+    requires alone { (v : ℕ) → IsOwn board.old.room.owners.items board.old.room.links.items net v → ⊥ }
     ensures grid { board.new.room.grid ≡ board.old.room.grid }
     ensures owners { board.new.room.owners.items ≡ slice_set board.old.room.owners.items node net }
     ensures links { board.new.room.links.items ≡ slice_set board.old.room.links.items node 9 }
     ensures log { Logs node 1 board.old.log board.new.log }
     ensures frontier { board.new.frontier ≡ board.old.frontier }
     ensures reserved { board.new.reserved ≡ board.old.reserved }
+    ensures holds { HoldsTree board.new }
 {
+    board.hull = with_node(&board.room.grid, nowhere(), node);
+    board.held = net;
     board.room.owners[node as usize] = net;
     board.room.links[node as usize] = ROOT;
     push(&mut board.log, node, REACHED);
+}
+
+/// The hull of the net's tree. It goes over all nodes, unless this is the net of the last call.
+fn hull_for(board: &Board, net: u32) -> Hull
+    requires sound { IsSound board.now }
+    ensures { Holds board.now.room.grid result board.now.room.owners.items board.now.room.links.items net }
+{
+    if board.held == net {
+        board.hull
+    } else {
+        hull_of_tree(&board.room, net)
+    }
 }
 
 /// Connects the target with the net's tree by a least path, and gives its cost.
@@ -54,6 +75,7 @@ pub(crate) fn join(board: &mut Board, net: u32, target: u32) -> Option<u64>
     ensures joins { IfSome result (λ c. Touches net target c board.old board.new ⊎ Reaches net target c board.old board.new) }
     ensures stuck { IfNone result (IsStuck net target board.old board.new) }
     ensures reserved { board.new.reserved ≡ board.old.reserved }
+    ensures holds { HoldsTree board.new }
 {
     let at = target as usize;
     let owner = board.room.owners[at];
@@ -64,13 +86,23 @@ pub(crate) fn join(board: &mut Board, net: u32, target: u32) -> Option<u64>
     if owner != NOBODY && owner != net {
         return None;
     }
+    let hull = hull_for(board, net);
+    board.hull = hull;
+    board.held = net;
     let room = &board.room;
-    let found = search(room, &room.owners, net, target, &mut board.frontier);
+    let found = search(room, &room.owners, net, target, hull, &mut board.frontier);
     let Some(meeting) = found else {
         clear(&mut board.frontier);
         return None;
     };
-    claim(&mut board.room, net, target, &board.frontier.marks, meeting);
+    board.hull = claim(
+        &mut board.room,
+        net,
+        target,
+        &board.frontier.marks,
+        hull,
+        meeting,
+    );
     clear(&mut board.frontier);
     push(&mut board.log, target, REACHED);
     Some(meeting.cost)
@@ -83,6 +115,7 @@ pub(crate) fn keep_off(board: &mut Board, net: u32)
     ensures room { board.new.room ≡ board.old.room }
     ensures log { board.new.log ≡ board.old.log }
     ensures reserved { board.new.reserved ≡ board.old.reserved }
+    ensures holds { HoldsTree board.new }
 {
     let room = &board.room;
     board.frontier.ties.add_tree(&room.owners, &room.links, net);
@@ -93,6 +126,7 @@ pub(crate) fn tear(board: &mut Board, net: u32)
     requires sound { IsSound board.old }
     ensures { IsTorn net board.old board.new }
 {
+    board.held = NOBODY;
     drop_moves(&board.room, &mut board.log, net);
     free_paths(&mut board.room, &board.reserved, net);
 }
@@ -108,6 +142,7 @@ pub(crate) fn block(board: &mut Board, net: u32, target: u32) -> Option<u32>
     ensures room { board.new.room ≡ board.old.room }
     ensures log { board.new.log ≡ board.old.log }
     ensures reserved { board.new.reserved ≡ board.old.reserved }
+    ensures holds { HoldsTree board.new }
     ensures blocks { IfSome result (λ b. IsBlocked board.old net target b) }
     ensures none { IfNone result (NoWay board.old board.old.reserved.items net target) }
 {
@@ -115,11 +150,15 @@ pub(crate) fn block(board: &mut Board, net: u32, target: u32) -> Option<u32>
     if !is_free(word, net) {
         return None;
     }
+    let hull = hull_for(board, net);
+    board.hull = hull;
+    board.held = net;
     let Some(meeting) = search(
         &board.room,
         &board.reserved,
         net,
         target,
+        hull,
         &mut board.frontier,
     ) else {
         clear(&mut board.frontier);

@@ -1,17 +1,21 @@
 // The nodes that a search has reached.
 ghost use Rattle.std.specs.Prelude.{◌≡◌, ◌≢◌, ℕ, ◌+◌, ◌%◌, ◌<◌, ◌≤◌, ◌⊎◌, IfNone, IfOk, IfSome, length, slice_index, slice_set};
 ghost use Rattle.grid_core.specs.Numbers.{nodes};
+ghost use Rattle.nero_maze.specs.Hulls.{far};
+ghost use Rattle.nero_maze.specs.Levels.{IsSource};
 ghost use Rattle.nero_maze.specs.Search.{IsRoom, IsField, IsOwn, IsIdle, Kept, Grown, IsSpread};
 
+use crate::hull::{Hull, far_from};
 use crate::penalties::Ties;
-use crate::way::step;
-use grid_core::{Grid, NOBODY};
+use crate::trace::is_free;
+use crate::way::{Place, beside, number_of_place, place_of, weight_of};
+use grid_core::Grid;
 use std::alloc::{AllocError, Global};
 
 /// The mark of the node at which a search begins; other marks are one more than the way by which the node was reached.
 pub(crate) const START: u8 = 5;
 /// What is added to the mark of a node that was reached at this level of cost, as long as another way of this cost may take its place.
-const FRESH: u8 = 8;
+pub(crate) const FRESH: u8 = 8;
 
 /// The grid, the owners of its nodes, and what is not 0 where a node is in a tree.
 #[derive(Drop)]
@@ -21,10 +25,11 @@ pub(crate) struct Room {
     pub(crate) links: Vec<u8>,
 }
 
-/// Where a net may go: over the nodes of the grid whose word is the net's own or `NOBODY`.
+/// Where a net may go, over the nodes of the grid whose word is the net's own or `NOBODY`, and the hull to which it goes.
 #[derive(Clone, Copy)]
 pub(crate) struct Field<'w> {
     pub(crate) grid: Grid,
+    pub(crate) hull: Hull,
     pub(crate) words: &'w Vec<u32>,
     pub(crate) net: u32,
 }
@@ -107,31 +112,48 @@ fn prefer(frontier: &mut Frontier, node: u32, mark: u8, sum: u16)
     }
 }
 
-/// Marks the neighbour of entry `at` on a way, where it is free and has no mark, or one of this level and a greater sum of penalties.
-fn visit(field: &Field, frontier: &mut Frontier, at: usize, way: u8)
+/// An entry, where it stands, and by how much the bound and the cost of ways on from it are to rise. `reach` is its bound and this.
+#[derive(Clone, Copy, Drop)]
+pub(crate) struct Source {
+    pub(crate) at: usize,
+    pub(crate) node: u32,
+    pub(crate) place: Place,
+    pub(crate) rise: u64,
+    pub(crate) reach: u64,
+}
+
+/// Marks the neighbour of an entry on a way, where the sum rises so, and it is free and has no mark, or one of this level and a greater
+/// sum of penalties.
+fn visit(field: &Field, frontier: &mut Frontier, source: &Source, way: u8)
     requires field { IsField field.now }
     requires size { length frontier.old.marks.items ≡ nodes field.now.grid }
     requires kept { Kept frontier.old.order.items frontier.old.marks.items frontier.old.count }
-    requires at { at < frontier.old.count }
+    requires source { IsSource field.now frontier.old.order.items source.now }
+    requires at { source.now.at < frontier.old.count }
     requires way { way < 4 }
     ensures size { length frontier.new.marks.items ≡ nodes field.now.grid }
     ensures kept { Kept frontier.new.order.items frontier.new.marks.items frontier.new.count }
-    ensures grown { Grown field.now.grid field.now.words.now.items field.now.net at (at + 1) way (way + 1)
+    ensures grown { Grown field.now.grid field.now.words.now.items field.now.net (far field.now.grid field.now.hull) source.now.rise
+        source.now.at (source.now.at + 1)
         frontier.old.order.items frontier.old.marks.items frontier.old.count
         frontier.new.order.items frontier.new.marks.items frontier.new.count }
-    ensures spread { IsSpread field.now.grid field.now.words.now.items field.now.net frontier.old.order.items frontier.new.marks.items at way }
+    ensures spread { IsSpread field.now.grid field.now.words.now.items field.now.net (far field.now.grid field.now.hull) source.now.rise
+        frontier.old.order.items frontier.new.marks.items source.now.at way }
 {
-    let from = frontier.order[at];
-    let Some(to) = step(&field.grid, from, way) else {
+    let Some(place) = beside(&field.grid, source.place, way) else {
         return;
     };
-    let net = field.net;
+    let far = far_from(&field.hull, place);
+    if weight_of(way) + far != source.reach {
+        return;
+    }
+    let to = number_of_place(&field.grid, place);
     let owner = field.words[to as usize];
-    if owner != NOBODY && owner != net {
+    if !is_free(owner, field.net) {
         return;
     }
     let known = frontier.marks[to as usize];
-    let sum = frontier.ties.sum_on(from, to);
+    let sum = frontier.ties.sum_on(source.node, to);
     if known > FRESH {
         prefer(frontier, to, way + 1 + FRESH, sum);
         return;
@@ -145,44 +167,85 @@ fn visit(field: &Field, frontier: &mut Frontier, at: usize, way: u8)
     frontier.count += 1;
 }
 
-/// Marks the free neighbours of some entries on two ways.
-pub(crate) fn expand(field: &Field, frontier: &mut Frontier, span: Span, way: u8)
+/// What `visit` needs to know of an entry.
+fn source_at(field: &Field, frontier: &Frontier, at: usize, rise: u64) -> Source
+    requires field { IsField field.now }
+    requires size { length frontier.now.marks.items ≡ nodes field.now.grid }
+    requires kept { Kept frontier.now.order.items frontier.now.marks.items frontier.now.count }
+    requires at { at < frontier.now.count }
+    requires rise { rise < 7 }
+    ensures source { IsSource field.now frontier.now.order.items result }
+    ensures at { result.at ≡ at }
+    ensures rise { result.rise ≡ rise }
+{
+    let node = frontier.order[at];
+    let place = place_of(&field.grid, node);
+    Source {
+        at,
+        node,
+        place,
+        rise,
+        reach: rise + far_from(&field.hull, place),
+    }
+}
+
+/// Marks the free neighbours of an entry at which the sum rises so.
+fn expand_one(field: &Field, frontier: &mut Frontier, at: usize, rise: u64)
+    requires field { IsField field.now }
+    requires size { length frontier.old.marks.items ≡ nodes field.now.grid }
+    requires kept { Kept frontier.old.order.items frontier.old.marks.items frontier.old.count }
+    requires at { at < frontier.old.count }
+    requires rise { rise < 7 }
+    ensures size { length frontier.new.marks.items ≡ nodes field.now.grid }
+    ensures kept { Kept frontier.new.order.items frontier.new.marks.items frontier.new.count }
+    ensures grown { Grown field.now.grid field.now.words.now.items field.now.net (far field.now.grid field.now.hull) rise at (at + 1)
+        frontier.old.order.items frontier.old.marks.items frontier.old.count
+        frontier.new.order.items frontier.new.marks.items frontier.new.count }
+    ensures spread { (k : ℕ) → k < 4
+        → IsSpread field.now.grid field.now.words.now.items field.now.net (far field.now.grid field.now.hull) rise
+        frontier.old.order.items frontier.new.marks.items at k }
+{
+    let source = source_at(field, frontier, at, rise);
+    for way in 0..4u8 {
+        visit(field, frontier, &source, way);
+    }
+}
+
+/// Marks the free neighbours of some entries at which the sum rises so.
+pub(crate) fn expand(field: &Field, frontier: &mut Frontier, span: Span, rise: u64)
     requires field { IsField field.now }
     requires size { length frontier.old.marks.items ≡ nodes field.now.grid }
     requires kept { Kept frontier.old.order.items frontier.old.marks.items frontier.old.count }
     requires range { span.from ≤ span.to }
     requires to { span.to ≤ frontier.old.count }
-    requires way { way < 3 }
+    requires rise { rise < 7 }
     ensures size { length frontier.new.marks.items ≡ nodes field.now.grid }
     ensures kept { Kept frontier.new.order.items frontier.new.marks.items frontier.new.count }
-    ensures grown { Grown field.now.grid field.now.words.now.items field.now.net span.from span.to way (way + 2)
+    ensures grown { Grown field.now.grid field.now.words.now.items field.now.net (far field.now.grid field.now.hull) rise span.from span.to
         frontier.old.order.items frontier.old.marks.items frontier.old.count
         frontier.new.order.items frontier.new.marks.items frontier.new.count }
-    ensures spread { (j k : ℕ) → span.from ≤ j → j < span.to → way ≤ k → k < way + 2
-        → IsSpread field.now.grid field.now.words.now.items field.now.net frontier.old.order.items frontier.new.marks.items j k }
+    ensures spread { (j k : ℕ) → span.from ≤ j → j < span.to → k < 4
+        → IsSpread field.now.grid field.now.words.now.items field.now.net (far field.now.grid field.now.hull) rise
+        frontier.old.order.items frontier.new.marks.items j k }
 {
     for at in span.from..span.to {
-        visit(field, frontier, at, way);
-        visit(field, frontier, at, way + 1);
+        expand_one(field, frontier, at, rise);
     }
 }
 
-/// The entries from `from` on keep the ways by which they were reached.
-pub(crate) fn settle(frontier: &mut Frontier, from: usize)
+/// An entry keeps the way by which it was reached.
+pub(crate) fn settle(frontier: &mut Frontier, at: usize)
     requires kept { Kept frontier.old.order.items frontier.old.marks.items frontier.old.count }
-    requires live { (v : ℕ) → slice_index frontier.old.marks.items v ≢ 0 → slice_index frontier.old.marks.items v % 8 ≢ 0 }
-    requires settled { (i : ℕ) → i < from → i < frontier.old.count
-        → slice_index frontier.old.marks.items (slice_index frontier.old.order.items i) < 8 }
+    requires at { at < frontier.old.count }
+    requires live { slice_index frontier.old.marks.items (slice_index frontier.old.order.items at) % 8 ≢ 0 }
     ensures kept { Kept frontier.new.order.items frontier.new.marks.items frontier.new.count }
-    ensures size { length frontier.new.marks.items ≡ length frontier.old.marks.items }
     ensures order { frontier.new.order.items ≡ frontier.old.order.items }
     ensures count { frontier.new.count ≡ frontier.old.count }
-    ensures marks { (v : ℕ) → slice_index frontier.new.marks.items v ≡ slice_index frontier.old.marks.items v % 8 }
+    ensures marks { frontier.new.marks.items ≡ slice_set frontier.old.marks.items (slice_index frontier.old.order.items at)
+        (slice_index frontier.old.marks.items (slice_index frontier.old.order.items at) % 8) }
 {
-    for i in from..frontier.count {
-        let node = frontier.order[i];
-        frontier.marks[node as usize] %= FRESH;
-    }
+    let node = frontier.order[at];
+    frontier.marks[node as usize] %= FRESH;
 }
 
 /// The first entry from `from` on that is in the net's own tree.

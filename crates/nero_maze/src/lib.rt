@@ -5,6 +5,8 @@ mod board;
 mod claim;
 mod frontier;
 mod history;
+mod hull;
+mod level;
 mod penalties;
 mod router;
 mod search;

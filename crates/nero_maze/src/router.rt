@@ -9,8 +9,9 @@ ghost use Rattle.nero_maze.specs.Routing.{tree_of, IsPoint, IsBare, Begins, Conn
 use crate::board::{Board, block, join, keep_off, root, tear};
 use crate::frontier::{Frontier, Room, unmarked, zeros};
 use crate::history::trees_of;
+use crate::hull::nowhere;
 use crate::penalties::Ties;
-use grid_core::{Node, Occupied, Routes, number_of};
+use grid_core::{NOBODY, Node, Occupied, Routes, number_of};
 use std::alloc::{AllocError, Global};
 use std::marker::Model;
 
@@ -77,6 +78,8 @@ impl Router {
                     ties,
                 },
                 log,
+                hull: nowhere(),
+                held: NOBODY,
             },
         })
     }

@@ -5,9 +5,8 @@ ghost use Rattle.nero_maze.specs.Search.{IsRoom, Trace};
 ghost use Rattle.nero_maze.specs.Ripping.{AreFree, FirstTaken};
 
 use crate::board::Board;
-use crate::claim::weight_of;
 use crate::search::Meeting;
-use crate::way::{opposite_of, step};
+use crate::way::{opposite_of, step, weight_of};
 use grid_core::NOBODY;
 
 /// Whether a node with this owner is free for the net.

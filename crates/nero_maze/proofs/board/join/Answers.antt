@@ -12,8 +12,8 @@ push-requires-clause-unmarked c =
     let word = read_at o c.args.target c.index-owner.result.now lt c.index-owner.ensures in
     unmarked_own c.args.board.now c.args.net c.args.target c.requires.new (word ∙ c.if-owner-net.true)
 
-pub claim-requires-clause-least : goal.claim-requires-clause-least
-claim-requires-clause-least c =
+pub claim-board-requires-clause-least : goal.claim-board-requires-clause-least
+claim-board-requires-clause-least c =
     let o = c.args.board.now.room.owners.items in
     let lt : c.args.target < length o = (let e = c.requires.sound.room.owners in let h = c.requires.target in omega arith) in
     let word = read_at o c.args.target c.index-owner.result.now lt c.index-owner.ensures in

@@ -11,7 +11,7 @@ pub invariant_of-result : goal.invariant_of-result
 invariant_of-result c =
     let g = c.grid-grid.result in
     let room : Room = record { grid = g; owners = c.into_words-owners.result; links = c.in_ok-links.links } in
-    let b : Board = record { room = room; reserved = c.in_ok-reserved.reserved; frontier = record { order = c.in_ok-reached.reached.order; marks = c.in_ok-reached.reached.marks; count = c.in_ok-reached.reached.count; ties = c.in_ok-ties.ties }; log = c.in_ok-log.log } in
+    let b : Board = record { room = room; reserved = c.in_ok-reserved.reserved; frontier = record { order = c.in_ok-reached.reached.order; marks = c.in_ok-reached.reached.marks; count = c.in_ok-reached.reached.count; ties = c.in_ok-ties.ties }; log = c.in_ok-log.log; hull = c.nowhere.result; held = 4294967295 } in
     let same = sym c.grid-grid.ensures.grid in
     let few : nodes g < 4294967295 = subst (λ (h : Grid). nodes h < 4294967295) same c.grid-grid.ensures.few in
     let size : length c.args.occupied.words ≡ nodes g = subst (λ (h : Grid). length c.args.occupied.words ≡ nodes h) same c.grid-grid.ensures.size in

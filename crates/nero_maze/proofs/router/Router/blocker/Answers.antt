@@ -17,7 +17,7 @@ block-requires-clause-stuck c =
 pub invariant_of-self : goal.invariant_of-self
 invariant_of-self c =
     let e = c.block.ensures in
-    (sound_same c.self.inside.board c.block.new.board c.self.invariant e.idle e.reserved e.room e.log).0
+    (sound_same c.self.inside.board c.block.new.board c.self.invariant e.idle e.reserved e.room e.log e.holds).0
 
 pub returns-clause-blocks : goal.returns-clause-blocks
 returns-clause-blocks c =
@@ -35,4 +35,4 @@ returns-clause-none c =
 pub returns-clause-same : goal.returns-clause-same
 returns-clause-same c =
     let e = c.block.ensures in
-    rw (← c.self.view_is) (sound_same c.self.inside.board c.block.new.board c.self.invariant e.idle e.reserved e.room e.log).1
+    rw (← c.self.view_is) (sound_same c.self.inside.board c.block.new.board c.self.invariant e.idle e.reserved e.room e.log e.holds).1

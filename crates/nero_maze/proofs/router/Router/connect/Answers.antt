@@ -15,8 +15,8 @@ invariant_of-self c =
     let new = (let h = c.requires.new in rw (← c.self.view_is) at h) in
     elim c.match-join.branch [
       | in-Some w ↦ (connected c.self.inside.board c.join.new.board c.args.net w.in-Some.cost c.args.target c.self.invariant begun within new c.join.ensures.idle c.join.ensures.reserved
-          (rw c.number_of-at.ensures.number at w.in-Some.ensures.joins)).0
-      | in-None w ↦ (sound_same c.self.inside.board c.join.new.board c.self.invariant c.join.ensures.idle c.join.ensures.reserved w.in-None.ensures.stuck.room w.in-None.ensures.stuck.log).0
+          (rw c.number_of-at.ensures.number at w.in-Some.ensures.joins) c.join.ensures.holds).0
+      | in-None w ↦ (sound_same c.self.inside.board c.join.new.board c.self.invariant c.join.ensures.idle c.join.ensures.reserved w.in-None.ensures.stuck.room w.in-None.ensures.stuck.log c.join.ensures.holds).0
     ]
 
 pub returns-clause-path : goal.returns-clause-path
@@ -26,7 +26,7 @@ returns-clause-path c =
     let new = (let h = c.requires.new in rw (← c.self.view_is) at h) in
     elim c.match-join.branch [
       | in-Some w ↦ rw (w.result-is, ← c.self.view_is) (connected c.self.inside.board c.join.new.board c.args.net w.in-Some.cost c.args.target c.self.invariant begun within new c.join.ensures.idle c.join.ensures.reserved
-          (rw c.number_of-at.ensures.number at w.in-Some.ensures.joins)).1
+          (rw c.number_of-at.ensures.number at w.in-Some.ensures.joins) c.join.ensures.holds).1
       | in-None w ↦ rw w.result-is tt
     ]
 
