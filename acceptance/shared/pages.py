@@ -15,7 +15,7 @@ from acceptance.running.places import TOP
 from acceptance.running.results import Room
 
 SECONDS = 900
-PAGES = ["README.md", "docs/TOUR.md", "docs/REFUSALS.md", *sorted(str(page.relative_to(TOP)) for page in TOP.glob("docs/share/*.md"))]
+PAGES = ["README.md", "docs/TOUR.md", "docs/REFUSALS.md", "docs/LIBRARIES.md", *sorted(str(page.relative_to(TOP)) for page in TOP.glob("docs/share/*.md"))]
 BLOCK = re.compile(r"^```\w*\n(.*?)^```", re.M | re.S)
 BUILDS = re.compile(r"^(\./build\.sh|bash \.ci|acceptance/)")
 NOT_RUN, NOT_FOUND = 126, 127

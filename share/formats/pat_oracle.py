@@ -94,7 +94,7 @@ class Pattern:
 class PatternReader:
     def __init__(self, text):
         self.tokens, self.last = lex(text)
-        self.at = 0
+        self.at, self.wanted = 0, ()
 
     def kind(self):
         return self.tokens[self.at][0] if self.at < len(self.tokens) else None
@@ -107,6 +107,7 @@ class PatternReader:
 
     def take(self, *kinds):
         if self.kind() not in kinds:
+            self.wanted = kinds
             raise fault(self.line(), "syntax")
         self.at += 1
         return self.tokens[self.at - 1][1]

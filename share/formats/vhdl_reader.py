@@ -20,7 +20,9 @@ WIDTHS = {"b": 1, "o": 3, "x": 4}
 
 
 class Refused(Exception):
-    """A refusal, as `input LINE KIND NAMES` or `limit KIND REACHED`."""
+    """A refusal, as `input LINE KIND NAMES` or `limit KIND REACHED`. Of a byte that begins no token it has the place `at`."""
+
+    at = None
 
 
 def fault(line, kind, *names):
@@ -34,15 +36,28 @@ def limit(kind, reached):
 # ---- tokens
 
 
+class Token(tuple):
+    """A token as (kind, value, line); it begins at the byte `start`, and ends before `end`."""
+
+    start = end = None
+
+
 class Scanner:
-    """A place in a text, and the tokens before it as (kind, value, line)."""
+    """A place in a text, and the tokens before it."""
 
     def __init__(self, text):
         self.text, self.at, self.line, self.tokens = text, 0, 1, []
 
     def push(self, kind, value, end):
-        self.tokens.append((kind, value, self.line))
+        token = Token((kind, value, self.line))
+        token.start, token.end = self.at, end
+        self.tokens.append(token)
         self.at = end
+
+    def bad_byte(self):
+        refused = fault(self.line, "bad byte")
+        refused.at = self.at
+        return refused
 
     def past(self, bytes_of_it):
         """Where bytes of this kind end."""
@@ -88,13 +103,13 @@ class Scanner:
     def quoted(self):
         end = self.quote_end(self.at + 1)
         if end is None:
-            raise fault(self.line, "bad byte")
+            raise self.bad_byte()
         self.push("quoted", self.text[self.at + 1 : end], end + 1)
 
     def sign(self):
         sign = next((s for s in SIGNS if self.text.startswith(s.encode(), self.at)), None)
         if sign is None:
-            raise fault(self.line, "bad byte")
+            raise self.bad_byte()
         self.push(sign, sign, self.at + len(sign))
         return sign
 
@@ -175,6 +190,7 @@ class Reader:
         self.tokens, self.last, self.at = tokens, last, 0
         self.names, self.bits, self.depth, self.operators = set(), 0, 0, 0
         self.symbols, self.forms, self.ranges, self.entity_name = [], [], [], None
+        self.wanted = ()
 
     def kind(self):
         return self.tokens[self.at][0] if self.at < len(self.tokens) else None
@@ -187,6 +203,7 @@ class Reader:
 
     def take(self, *kinds):
         if self.kind() not in kinds:
+            self.wanted = kinds
             raise self.syntax()
         self.at += 1
         return self.tokens[self.at - 1]
