@@ -1,5 +1,5 @@
 #!/usr/bin/env bash
-# Makes files at and near the limits for every reader and every tool, each at sizes that double, and measures what a run takes: shapes that lie
+# Makes files at and near the limits for every reader and most tools, each at sizes that double, and measures what a run takes: shapes that lie
 # on each other, in each other and in a chain, one net of all pins, deep nests, the longest chains, wide vectors, many states, many cells.
 #
 # Usage: bench/hostile.sh PROGRAM [SECONDS] [WORD..]    a run is cut off after SECONDS of a processor, 60 at first; where words are given,

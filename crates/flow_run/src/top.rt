@@ -50,7 +50,9 @@ fn run<S: Shelf, T: Sink>(alloc: Global, command: &Command, shelf: &mut S, out: 
 /// of these cells, `loon` puts buffers into a netlist and chooses its cells, `ocp` places a netlist in rows, `nero` routes it over
 /// its placement, `asimut` runs patterns on the source, or on the netlist of the library's cells, `cougar` takes the netlist out of
 /// a layout of these cells, `lvx` compares two netlists by name, `druc` lists where a layout breaks the rules, `proof` compares two
-/// sources as functions, and `flatbeh` makes a data-flow source of a netlist.
+/// sources as functions, `flatbeh` makes a data-flow source of a netlist, `s2r` makes a layout real, `scapin` puts a scan path into a
+/// netlist, `fmi` makes a state machine with the fewest states, `rip` routes and tears out what is in the way, and `area` says the least
+/// area of a source's trees.
 ///
 /// The words are taken apart first, and only then is a file read. A tool reads its files in their order, then writes its file,
 /// if it has one, and then prints its text by one put.
@@ -74,6 +76,11 @@ fn run<S: Shelf, T: Sink>(alloc: Global, command: &Command, shelf: &mut S, out: 
 /// - `druc` reads the same files as `cougar`, and prints what breaks the rules, and how often.
 /// - `proof` reads SOURCE and OTHER, and prints that they are equal.
 /// - `flatbeh` reads the same files as `boog`, with a netlist for SOURCE, writes the source to NAME.vbe and prints how large it is.
+/// - `s2r` reads a layout, a table and the files of the library, writes the boxes to NAME.cif and prints how many they are.
+/// - `scapin` reads a netlist, a path and the files of the library, writes the new netlist to NAME.vst and prints how many cells it has.
+/// - `fmi` reads SOURCE, writes the state machine to NAME.fsm and prints how many states it has.
+/// - `rip` reads and writes what `nero` does, and prints how often a net was torn out as well.
+/// - `area` reads the same files as `boog`, and prints how many trees there are and their least area.
 ///
 /// A refusal prints its line by one put; if that fails the status stays as it was. Memory for what is read and answered is taken on
 /// `alloc` and given back.
