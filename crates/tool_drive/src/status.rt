@@ -49,9 +49,9 @@ pub enum Verdict {
 }
 
 /// How a call ends. Every tool may answer `Accepted`, `Usage`, `File`, `Memory` and `Limit`, and `Source` where it is given one. Those
-/// that read a library answer `Library` too, those that map to its cells `NoCover`, those that build diagrams `Budget`, those that route over rows `NoPath`, and those that
-/// compare, that need each cell's behaviour, or that make shapes real, `No`. The driver itself answers `File`, `Memory` and the limit file; the other refusals
-/// are the tools'.
+/// that read a library answer `Library` too, those that map to its cells `NoCover`, those that build diagrams `Budget`, those that route
+/// over rows `NoPath`, and those that compare, that need each cell's behaviour, or that make shapes real, `No`. The driver itself answers
+/// `File`, `Memory` and the limit file; the other refusals are the tools'.
 #[derive(Drop)]
 pub enum Status {
     /// What was asked is done, and printed.
