@@ -4,6 +4,7 @@
 #
 # Usage: ./build.sh                     prove, build, and lay out the counter; what was proved is kept, so that it goes on where it was stopped
 #        ./build.sh --quick [-- WORDS]  leave build/alliance-unproved, and run it on the counter, or on WORDS of your own; nothing is proved
+#        ./build.sh --check [COMMIT]  what can be looked at in half a minute: documents, pages, crates.txt, layout of files; nothing is proved
 #        ./build.sh --install PREFIX    copy the proved program that stands in build/, cells/, share/, manual pages and completions below PREFIX
 set -eu
 cd "$(dirname "$0")"
@@ -116,12 +117,16 @@ if [ "${1:-}" = --quick ]; then
   if [ $# -gt 0 ]; then run_unproved "$@"; else run_unproved "${COUNTER[@]}"; fi
   exit
 fi
+if [ "${1:-}" = --check ] && [ $# -le 2 ]; then
+  bench/check.sh "${@:2}"
+  exit
+fi
 if [ "${1:-}" = --install ] && [ $# -eq 2 ]; then
   install_below "$2"
   exit
 fi
 if [ $# -gt 0 ]; then
-  echo "usage: ./build.sh [--quick [-- WORDS] | --install PREFIX]" >&2
+  echo "usage: ./build.sh [--quick [-- WORDS] | --check [COMMIT] | --install PREFIX]" >&2
   exit 2
 fi
 
