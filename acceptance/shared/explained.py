@@ -38,6 +38,11 @@ SPELLED = [
     ("flwo a.vbe", "`flow` is meant, perhaps."),
     ("boom a.vbe b.vbe -o x", "`b.vbe` is a word too many."),
 ]
+# Sources that are accepted, and remarks on them.
+REMARKED = [
+    ("l.fsm", LOCK.replace("type state is (", "type state is (lost, ", 1), ["l.fsm: no other state leads to lost", "l.fsm: no branch lists the state lost"]),
+    ("c.vbe", COUNTER.replace("en  : in bit;", "en, spare : in bit;", 1), ["c.vbe: nothing reads the input spare"]),
+]
 INVERTERS = [
     ("a.vbe", "q <= a and b;"),
     ("b.vbe", "q <= a and not (b);"),
@@ -142,8 +147,20 @@ def check_cells(results):
         results.note(f"cellcheck of {case.title}", is_well, done.stdout[:500] + done.stderr)
 
 
+def check_remarks(results):
+    for name, text, wanted in REMARKED:
+        with Room() as room:
+            room.write({name: text.encode()})
+            status, out, err = explain(room.folder, "--lint", name)
+        results.note(f"explain --lint {name}", status == 0 and not err and all(line in out for line in wanted), out + err)
+    for path in sorted(TOP.glob("examples/*/*.fsm")):
+        _, out, err = explain(TOP, "--lint", path)
+        results.note(f"explain --lint {path.name}", not out and not err, out + err)
+
+
 def jobs(program):
     yield check_forms, ()
+    yield check_remarks, ()
     yield check_cells, ()
     yield check_lists, ()
     yield check_marks, ()
