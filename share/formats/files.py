@@ -5,7 +5,7 @@ import os
 import pathlib
 import sys
 
-from . import ap, cellcheck, extraction, fsm_oracle, models, pat_oracle, vbe_oracle, vhdl_reader, vst
+from . import ap, cellcheck, extraction, fsm_oracle, models, pat_oracle, real, vbe_oracle, vhdl_reader, vst
 
 sys.setrecursionlimit(100000)
 
@@ -92,6 +92,14 @@ def patterns(path):
     return read_by(lambda data: pat_oracle.PatternReader(data).file(), path)
 
 
+def table(path):
+    """A table that leads to real units."""
+    try:
+        return real.read(held(path))
+    except ValueError as fault:
+        raise Trouble(f"{path}:{fault}") from None
+
+
 def folder(path):
     try:
         return cellcheck.folder(path)
@@ -119,5 +127,13 @@ def flat(figure, of_name, path):
     """All shapes of a layout, and which of them are joined."""
     try:
         return extraction.flat_of(figure, of_name)
+    except extraction.Refused as refused:
+        raise told(path, refused.line.replace(":", "", 1)) from None
+
+
+def netlist_of(figure, of_shapes, of_name, path):
+    """The netlist that a layout gives."""
+    try:
+        return extraction.extracted(figure, of_shapes, of_name)
     except extraction.Refused as refused:
         raise told(path, refused.line.replace(":", "", 1)) from None
