@@ -30,13 +30,14 @@ def argument(*names, **knows):
 LIBRARY = argument("library", metavar="LIBRARY", help="the folder of the library whose cells it has")
 
 
-def run(main):
-    """Runs a program: trouble is one line on standard error and status 1; a reader that goes away ends it quietly."""
+def run(main, status=1):
+    """Runs a program: trouble is one line on standard error and this status; a reader that goes away ends it quietly."""
     try:
         main()
         sys.stdout.flush()
     except Trouble as trouble:
-        sys.exit(f"{pathlib.Path(sys.argv[0]).name}: {trouble}")
+        print(f"{pathlib.Path(sys.argv[0]).name}: {trouble}", file=sys.stderr)
+        sys.exit(status)
     except BrokenPipeError:
         os.dup2(os.open(os.devnull, os.O_WRONLY), sys.stdout.fileno())
 
