@@ -28,7 +28,7 @@ from acceptance.running import documents, front  # noqa: E402
 from acceptance.running.case_file import case_files  # noqa: E402
 from acceptance.running.cases import check_case  # noqa: E402
 from acceptance.running.results import Results  # noqa: E402
-from acceptance.shared import installed, pages, pictures, programs  # noqa: E402
+from acceptance.shared import installed, layouts, pages, pictures, programs, rechecks  # noqa: E402
 from acceptance.tools import cut_files, real_faults  # noqa: E402
 from acceptance.tools.table import TOOLS  # noqa: E402
 
@@ -42,6 +42,8 @@ def jobs_of(program, probe, cell_probe, maze_probe, seed, times):
     yield from programs.jobs(program)
     yield from pictures.jobs()
     yield from installed.jobs(program)
+    yield from layouts.jobs(program)
+    yield from rechecks.jobs(program)
     yield from real_faults.jobs(program)
     yield from cut_files.jobs(program)
     yield from front.jobs(probe, seed, times)

@@ -171,15 +171,18 @@ def boxes_of(item, table):
         yield from contact_boxes(item, table)
 
 
+PLACES = {"S": 8, "C": 7, "V": 3}
+
+
 def word_of(item):
-    """The layer or contact of a line that has one."""
-    return {"S": 8, "C": 7, "V": 3}.get(item[0]) and item[{"S": 8, "C": 7, "V": 3}[item[0]]].decode(errors="replace")
+    """The layer or contact of a line, or None where it has none."""
+    return item[PLACES[item[0]]].decode(errors="replace") if item[0] in PLACES else None
 
 
 def labels_of(item, table):
-    """The texts of a named segment or connector, as (real layer, x, y), in halves of real units."""
+    """The texts of a connector that has a name, as (real layer, x, y), in halves of real units."""
     word = word_of(item)
-    if item[0] == "S" and item[6][0] != "*":
+    if item[0] == "S" and word.startswith("CALU") and item[6][0] != "*":
         x, y = item[1] + item[3], item[2] + item[4]
     elif item[0] == "C" and item[4][0] != "*":
         x, y = 2 * item[1], 2 * item[2]
