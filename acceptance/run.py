@@ -5,12 +5,12 @@ Usage: acceptance/run.py PROGRAM [FRONT_PROBE [CELL_PROBE [MAZE_PROBE]]] [--many
 
 PROGRAM is `alliance`, or what `./build.sh --quick` leaves; FRONT_PROBE the program that reads fronts of VHDL texts, CELL_PROBE the one that
 reads ap files and libraries, of which cells.py says what it prints, MAZE_PROBE the one that routes nets over empty grids (moves.py). What asks
-for a probe that isn't there is skipped with a line. Run are the cases of crates/cases/data and of acceptance/large, each as its file says; each again with a folder in the place of every file that it reads or writes, with
-that file missing, and with a full output; each tool where something of the machine fails (tools/real_faults.py); the second readers on
-the same cases; and then the texts that each tool's module makes. Each language has one second reader, written from docs/FORMATS.md in this
-language; nothing that a program printed is wanted of it. What the documents name is looked up too, by bench/claims.py, and
-bench/headline.py has to write docs/HEADLINE.md as it stands. The commands of README, TOUR and other pages are run and compared with what
-the pages show, and the programs of share/ are tried.
+for a probe that isn't there is skipped with a line. Run are the cases of crates/cases/data and of acceptance/large, each as its file says; each
+again with a folder in the place of every file that it reads or writes, with that file missing, and with a full output; each tool where
+something of the machine fails (tools/real_faults.py); the second readers on the same cases; and then the texts that each tool's module makes.
+Each language has one second reader, written from docs/FORMATS.md in this language; nothing that a program printed is wanted of it. What the
+documents name is looked up too, by bench/claims.py, and bench/headline.py has to write docs/HEADLINE.md as it stands. The commands of README,
+TOUR and other pages are run and compared with what the pages show, and the programs of share/ are tried.
 
 --many makes ten times as many random texts. What can't be run on this machine is skipped with a line. The last line is
 `N passed, N failed, N skipped`.

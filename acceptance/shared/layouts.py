@@ -6,6 +6,7 @@ import pathlib
 import re
 import shutil
 import subprocess
+from typing import NamedTuple
 
 from acceptance.running.places import CELLS, EXAMPLES, TOP
 from acceptance.running.results import Room
@@ -19,7 +20,8 @@ SCRIPT = TOP / "acceptance/shared/klayout_reads.py"
 # A process of six metals, the highest of which is moved, with the layers of MOSIS.
 PROCESS = "\n".join(
     ["process six unit 10 scale 2 grid 50", "# metals, from the lowest up"]
-    + [f"segment {kind}{k} CM{k} {250 if k == 6 else 200} {50 if k == 6 else 0}{' 50 50' if k == 6 else ''}" for k in range(1, 7) for kind in ("ALU", "CALU")]
+    + [f"segment {kind}{k} CM{k} 200 0" for k in range(1, 6) for kind in ("ALU", "CALU")]
+    + ["segment ALU6 CM6 250 50 50 50", "segment CALU6 CM6 250 50 50 50"]
     + [f"contact CONT_VIA{k if k > 1 else ''} CM{k} {400 if k == 1 else 600}" for k in range(1, 6)]
     + [f"contact CONT_VIA{k if k > 1 else ''} CV{k} {300 if k == 5 else 200}{' 50 50' if k == 5 else ''}" for k in range(1, 6)]
     + [f"contact CONT_VIA{k if k > 1 else ''} CM{k + 1} {500 if k == 5 else 600}{' 50 50' if k == 5 else ''}" for k in range(1, 6)]
@@ -233,7 +235,8 @@ def check_refusals(results):
                 status, out, err = ran(program, *words)
                 results.note(f"{program} of the table {name}", (status, out, err) == (1, "", f"{program}: {path}:{line}\n"), out + err)
         four = room.folder / "four.real"
-        four.write_text("".join(line for line in PROCESS.splitlines(True) if not re.search(r"ALU3|CM3|CM4|CV3|VIA[345]|gds CM2", line)))
+        left_out = re.compile(r"ALU3|CM3|CM4|CV3|VIA[345]|gds CM2")
+        four.write_text("".join(line for line in PROCESS.splitlines(True) if not left_out.search(line)))
         for program, wanted in (("def", f"{layout}: {four} has no via for CONT_VIA2"), ("gds", f"{four}: no line gds CM2")):
             status, out, err = ran(program, layout, library, four)
             results.note(f"{program} without a metal", status == 1 and not out and err == f"{program}: {wanted}\n", err)
@@ -295,41 +298,60 @@ def read_by_klayout(room, jobs):
         }
 
 
-def laid_out(room, program):
-    """Layouts to try, by their names."""
-    found = {"pick": EXAMPLES / "checking/pick.ap"}
-    for name, source, words in (("rows", "counter/cnt4.vbe", []), ("tracks", "counter/cnt4.vbe", ["--tracks"]), ("alu", "alu/alu8.vbe", [])):
-        tool(room, program, "flow", EXAMPLES / source, "-l", CELLS, "-o", name, *words)
-        found[name] = room.folder / f"{name}.ap"
-    return found
+# Layouts with the tables by which each is written, "lambda" being none.
+TRIED = {
+    "pick": (None, [], ["lambda"]),
+    "rows": ("counter/cnt4.vbe", [], ["lambda", "plain", "six"]),
+    "tracks": ("counter/cnt4.vbe", ["--tracks"], ["plain"]),
+    "alu": ("alu/alu8.vbe", [], ["six"]),
+}
 
 
-def check_klayout(results, program):
+def laid_out(room, program, name):
+    source, words, _ = TRIED[name]
+    if source is None:
+        return EXAMPLES / f"checking/{name}.ap"
+    tool(room, program, "flow", EXAMPLES / source, "-l", CELLS, "-o", name, *words)
+    return room.folder / f"{name}.ap"
+
+
+class Case(NamedTuple):
+    """A layout under a table, or in lambda, and what klayout is given of it: a file, the LEF beside it, what it is compared with, the unit."""
+
+    kind: str
+    title: str
+    figure: object
+    process: object
+    job: tuple
+
+
+def cases_of(room, program, cells, name, title):
+    tables = {"lambda": [], "plain": [START], "six": [room.folder / "six.real"]}
+    words, path = tables[title], laid_out(room, program, name)
+    figure, process = files.layout(path), lefdef.process(*tables[title] or [None])
+    boxes, made = boxes_in(figure, cells, process.table), room.folder / f"{name}-{title}.def"
+    lef, wanted = room.folder / f"{title}.lef", room.folder / f"{name}-{title}.def.boxes"
+    lef.write_text(ran("lef", CELLS, *words)[1])
+    made.write_text(ran("def", path, CELLS, *words)[1])
+    write_boxes(wanted, boxes, process.units // process.per_micron)
+    yield Case("def", f"{name}, {title}", figure, process, (made, lef, wanted, 1 / process.units))
+    if words and name != "alu":
+        for job in gds_jobs(room, program, path, title, words[0], process, boxes):
+            yield Case("gds", f"{name}, {title}", figure, process, job)
+
+
+def check_klayout(results, program, name, title):
     """LEF with DEF, and GDSII, have the layout's shapes, nets and cells in klayout; GDSII has the boxes that s2r writes."""
     if not shutil.which("klayout"):
         results.skip("klayout isn't installed")
         return
     with Room() as room:
         room.write({"six.real": PROCESS.encode()})
-        cells, jobs, asked = files.cells(CELLS), [], []
-        for name, path in laid_out(room, program).items():
-            figure = files.layout(path)
-            for title, words in (("lambda", []), ("plain", [START]), ("six", [room.folder / "six.real"])):
-                process = lefdef.process(*words or [None])
-                lef, made = room.folder / f"{title}.lef", room.folder / f"{name}-{title}.def"
-                lef.write_text(ran("lef", CELLS, *words)[1])
-                made.write_text(ran("def", path, CELLS, *words)[1])
-                of_def = room.folder / f"{name}-{title}.def.boxes"
-                boxes = boxes_in(figure, cells, process.table)
-                write_boxes(of_def, boxes, process.units // process.per_micron)
-                jobs.append((made, lef, of_def, 1 / process.units))
-                asked.append(("def", name, title, figure, process))
-                if words:
-                    jobs += gds_jobs(room, program, path, title, words[0], process, boxes)
-                    asked += [("gds", name, title, figure, process)] * (len(jobs) - len(asked))
-        for (kind, name, title, figure, process), (layers, words) in zip(asked, read_by_klayout(room, jobs)):
-            judge = judge_def if kind == "def" else judge_gds
-            judge(results, f"{kind} of {name}, {title}, in klayout", figure, cells, process, layers, words)
+        cells = files.cells(CELLS)
+        cases = list(cases_of(room, program, cells, name, title))
+        for case, (layers, words) in zip(cases, read_by_klayout(room, [case.job for case in cases])):
+            judge = judge_def if case.kind == "def" else judge_gds
+            judge(results, f"{case.kind} of {case.title}, in klayout", case.figure, cells, case.process, layers, words)
 
 
 def gds_jobs(room, program, path, title, table, process, boxes):
@@ -424,5 +446,5 @@ def jobs(program):
     yield check_by_hand, ()
     yield check_refusals, ()
     yield check_structures, ()
-    yield check_klayout, (program,)
+    yield from ((check_klayout, (program, name, title)) for name, (_, _, titles) in TRIED.items() for title in titles)
     yield check_magic, (program,)

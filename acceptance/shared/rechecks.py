@@ -113,9 +113,9 @@ def check_ways(results, program):
 
 def judged(room, program):
     """Whether the tools find a layout well: its rules, and its netlist as a source that is equal to the source."""
-    steps = (["druc", "l.ap", "-l", CELLS], ["cougar", "l.ap", "-l", CELLS, "-o", "n"], ["flatbeh", "n.vst", "-l", CELLS, "-o", "f"], ["proof", "s.vbe", "-b", "f.vbe"])
-    for words in steps:
-        status, printed = room.run(program, list(map(str, words)))
+    of_layout = f"druc l.ap -l {CELLS}", f"cougar l.ap -l {CELLS} -o n"
+    for words in (*of_layout, f"flatbeh n.vst -l {CELLS} -o f", "proof s.vbe -b f.vbe"):
+        status, printed = room.run(program, words.split())
         if status != 0:
             return False, printed
     return True, b""
