@@ -47,10 +47,10 @@ run_unproved() {
   local status=0
   mkdir -p build
   if is_old; then
-    echo "compiling without proving, two to five minutes of four processors; nothing is proved"
-    rm -rf "$UNPROVED" "$UNPROVED-files"
+    echo "compiling without proving, some minutes; nothing is proved"
+    rm -rf "$UNPROVED"
     RT=$rt python3 bench/unproved.py "$UNPROVED"
-    echo "$UNPROVED: nothing of it is proved, and it is slower than the proved program"
+    echo "$UNPROVED: nothing of it is proved; it is as fast as the proved program"
   fi
   echo "$UNPROVED $*"
   "$UNPROVED" "$@" || status=$?

@@ -1,16 +1,16 @@
 #!/usr/bin/env python3
 """Runs the built programs on real files and on many texts.
 
-Usage: acceptance/run.py PROGRAM FRONT_PROBE [CELL_PROBE [MAZE_PROBE]] [--many] [--seed N]
+Usage: acceptance/run.py PROGRAM [FRONT_PROBE [CELL_PROBE [MAZE_PROBE]]] [--many] [--seed N]
 
-PROGRAM is `alliance`, FRONT_PROBE the program that reads fronts of VHDL texts, CELL_PROBE the one that reads ap files and
-libraries, of which cells.py says what it prints, MAZE_PROBE the one that routes nets over empty grids (moves.py). Run are the cases of crates/cases/data and of
-acceptance/large, each as its file says; each again with a folder in the place of every file that it reads or writes, with
-that file missing, and with a full output; each tool where something of the machine fails (tools/real_faults.py); the second readers on
-the same cases; and then the texts that each tool's module makes. Each language has one second reader, written from docs/FORMATS.md in this
-language; nothing that a program printed is wanted of it. What the documents name is looked up too, by bench/claims.py, and
-bench/headline.py has to write docs/HEADLINE.md as it stands. The commands of README, TOUR and other pages are run and compared with what
-the pages show, and the programs of share/ are tried.
+PROGRAM is `alliance`, or what `./build.sh --quick` leaves; FRONT_PROBE the program that reads fronts of VHDL texts, CELL_PROBE the one that
+reads ap files and libraries, of which cells.py says what it prints, MAZE_PROBE the one that routes nets over empty grids (moves.py). What asks
+for a probe that isn't there is skipped with a line. Run are the cases of crates/cases/data and of acceptance/large, each as its file says; each
+again with a folder in the place of every file that it reads or writes, with that file missing, and with a full output; each tool where
+something of the machine fails (tools/real_faults.py); the second readers on the same cases; and then the texts that each tool's module makes.
+Each language has one second reader, written from docs/FORMATS.md in this language; nothing that a program printed is wanted of it. What the
+documents name is looked up too, by bench/claims.py, and bench/headline.py has to write docs/HEADLINE.md as it stands. The commands of README,
+TOUR and other pages are run and compared with what the pages show, and the programs of share/ are tried.
 
 --many makes ten times as many random texts. What can't be run on this machine is skipped with a line. The last line is
 `N passed, N failed, N skipped`.
@@ -28,7 +28,7 @@ from acceptance.running import documents, front  # noqa: E402
 from acceptance.running.case_file import case_files  # noqa: E402
 from acceptance.running.cases import check_case  # noqa: E402
 from acceptance.running.results import Results  # noqa: E402
-from acceptance.shared import explained, installed, pages, pictures, programs  # noqa: E402
+from acceptance.shared import explained, installed, layouts, pages, pictures, programs, rechecks  # noqa: E402
 from acceptance.tools import cut_files, real_faults  # noqa: E402
 from acceptance.tools.table import TOOLS  # noqa: E402
 
@@ -43,6 +43,8 @@ def jobs_of(program, probe, cell_probe, maze_probe, seed, times):
     yield from pictures.jobs()
     yield from explained.jobs(program)
     yield from installed.jobs(program)
+    yield from layouts.jobs(program)
+    yield from rechecks.jobs(program)
     yield from real_faults.jobs(program)
     yield from cut_files.jobs(program)
     yield from front.jobs(probe, seed, times)
@@ -65,20 +67,19 @@ def work(job):
 
 
 def main():
-    reader = argparse.ArgumentParser(usage="%(prog)s PROGRAM FRONT_PROBE [CELL_PROBE] [--many] [--seed N]")
+    reader = argparse.ArgumentParser(usage="%(prog)s PROGRAM [FRONT_PROBE [CELL_PROBE [MAZE_PROBE]]] [--many] [--seed N]")
     reader.add_argument("program", type=pathlib.Path)
-    reader.add_argument("front_probe", type=pathlib.Path)
+    reader.add_argument("front_probe", type=pathlib.Path, nargs="?")
     reader.add_argument("cell_probe", type=pathlib.Path, nargs="?")
     reader.add_argument("maze_probe", type=pathlib.Path, nargs="?")
     reader.add_argument("--many", action="store_true")
     reader.add_argument("--seed", type=int, default=1)
     given = reader.parse_args()
-    for program in (given.program, given.front_probe):
+    for program in filter(None, (given.program, given.front_probe)):
         if not os.access(program, os.X_OK):
             reader.error(f"{program} can't be run")
-    probes = cells.runnable(given.cell_probe), cells.runnable(given.maze_probe)
-    programs = str(given.program.resolve()), str(given.front_probe.resolve()), *probes
-    jobs = list(jobs_of(*programs, given.seed, 10 if given.many else 1))
+    probes = map(cells.runnable, (given.front_probe, given.cell_probe, given.maze_probe))
+    jobs = list(jobs_of(str(given.program.resolve()), *probes, given.seed, 10 if given.many else 1))
     total = Results()
     with Pool(os.cpu_count()) as pool:
         for results in pool.imap_unordered(work, jobs):

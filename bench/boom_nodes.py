@@ -1,5 +1,5 @@
 #!/usr/bin/env python3
-"""Prints how many nodes the largest diagram of a source's roots has, where that is at least MOST; acceptance/meaning/diagrams.py counts them.
+"""Prints how many nodes the largest diagram of a source's roots has, where that is at least MOST; share/formats/diagrams.py counts them.
 
 Usage: bench/boom_nodes.py SOURCE.vbe MOST
 """
@@ -7,7 +7,7 @@ import pathlib
 import sys
 
 sys.path.append(str(pathlib.Path(__file__).resolve().parent.parent))
-from acceptance.meaning import diagrams  # noqa: E402
+from share.formats import diagrams  # noqa: E402
 from share.formats.vbe_oracle import machine  # noqa: E402
 
 sys.setrecursionlimit(100000)

@@ -1,8 +1,8 @@
 """The text of a state machine, written from docs/formats/state-machines.md ("The text that is written") alone: the one spelling that it has."""
 
-from acceptance.meaning.diagrams import plain
 from acceptance.meaning.state_machine import first_free
 from acceptance.meaning.state_text import groups, whole
+from share.formats.diagrams import plain
 from share.formats.vhdl_reader import spelled
 
 

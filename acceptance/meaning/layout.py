@@ -6,9 +6,8 @@ rows.py. A netlist is one of vst.py; cells are those of cellcheck.py by their na
 
 import itertools
 
-from acceptance.meaning import diagrams
 from acceptance.meaning.mapping import machine_size
-from share.formats import cellcheck
+from share.formats import cellcheck, diagrams
 from share.formats.timing import own_cells, worst
 from share.formats.vhdl_reader import SUPPLIES
 

@@ -4,7 +4,7 @@ A placement is a list of rows of instances' names. `faults` says what is wrong w
 """
 
 from acceptance.meaning.rows import Rows
-from acceptance.meaning.state_codes import words
+from share.formats.state_codes import words
 
 MOST_ROWS, ROW_COLUMNS = 256, 10
 

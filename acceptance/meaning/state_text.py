@@ -2,7 +2,7 @@
 diagrams.py, with two operands an operator and one condition a choice.
 """
 
-from acceptance.meaning.diagrams import plain
+from share.formats.diagrams import plain
 from share.formats.models import OUT
 from share.formats.vhdl_reader import spelled
 

@@ -18,7 +18,7 @@ from share.formats.vst_writer import laid_out
 
 SECONDS = 300
 PROGRAMS = sorted(path.name for path in SHARE.iterdir() if path.is_file() and os.access(path, os.X_OK))
-CHECKING = EXAMPLES / "checking"
+CHECKING, START = EXAMPLES / "checking", EXAMPLES / "real/start.real"
 
 
 def ran(name, *words, given=b""):
@@ -38,11 +38,12 @@ def check_words(results):
         results.note(f"{name} has a page", is_there, str(page))
         if name == "explain":  # its words are another program's
             continue
-        ending = {"states": ".fsm", "vhdl": ".vbe", "netlist": ".vst"}.get(name, ".x")
-        more = [] if name in ("waves", "states", "vhdl") else ["report"] if name == "registers" else [CELLS]
-        words = ["nowhere"] if name in ("liberty", "cellcheck") else [f"nowhere{ending}", *more]
+        ending = {"states": ".fsm", "vhdl": ".vbe", "netlist": ".vst", "recheck": ".vbe"}.get(name, ".x")
+        more = {"waves": [], "states": [], "vhdl": [], "registers": ["report"], "gds": [CELLS, START], "recheck": ["l.ap", CELLS]}.get(name, [CELLS])
+        words = ["nowhere"] if name in ("liberty", "lef", "cellcheck") else [f"nowhere{ending}", *more]
+        wanted = 2 if name == "recheck" else 1
         status, out, err = ran(name, *words)
-        results.note(f"{name} without its file", status == 1 and not out and err.count("\n") == 1 and err.startswith(f"{name}: "), out + err)
+        results.note(f"{name} without its file", status == wanted and not out and err.count("\n") == 1 and err.startswith(f"{name}: "), out + err)
 
 
 def shapes_in(text):

@@ -7,13 +7,13 @@ import re
 
 from acceptance.makers.random_sources import Maker, changed
 from acceptance.makers.random_sources import WORDS as SOURCE_WORDS
-from acceptance.meaning import diagrams
 from acceptance.meaning.mapping import CHOICE, MOST_SIZE, formula_size, machine_size
 from acceptance.readers.words import TOOLS_LINE, command, held, trouble
 from acceptance.running.places import EXAMPLES
 from acceptance.running.results import Room, compare, run_in, shown
 from acceptance.tools.answers import agrees as same_answer
 from acceptance.tools.answers import refusal
+from share.formats import diagrams
 from share.formats.models import OUT
 from share.formats.pat_oracle import machine_of
 from share.formats.vbe_oracle import FILE, Ring

@@ -15,10 +15,9 @@ from acceptance.makers.random_sources import Maker, changed
 from acceptance.makers.random_sources import WORDS as SOURCE_WORDS
 from acceptance.makers.random_states import StateMaker
 from acceptance.makers.random_wide import WideMaker, with_drives
-from acceptance.meaning import diagrams, layout, maze, placing
+from acceptance.meaning import layout, maze, placing
 from acceptance.meaning.mapping import CHOICE, MOST_SIZE, build_faults, machine_size
 from acceptance.meaning.rows import Rows, rows_of
-from acceptance.meaning.state_codes import code_lines
 from acceptance.meaning.state_machine import machine_of as equations_of
 from acceptance.readers.words import TOOLS_LINE, command, held, trouble
 from acceptance.running.case_file import Case
@@ -30,10 +29,11 @@ from acceptance.tools.answers import refusal
 from acceptance.tools.boog import differs_from, of_cells
 from acceptance.tools.boom import MOST_NODES, NODES, inner_size
 from acceptance.tools.syf import STYLES, behaviour_faults, codes_of, style_of
-from share.formats import ap, catal, cellcheck, extraction, models
+from share.formats import ap, catal, cellcheck, diagrams, extraction, models
 from share.formats.fsm_oracle import state_machine
 from share.formats.models import IN, Refusal, first_missing, of_folder
 from share.formats.pat_oracle import machine_of
+from share.formats.state_codes import code_lines
 from share.formats.state_walk import StateMachine
 from share.formats.vbe_oracle import FILE, Machine, Ring
 from share.formats.vhdl_reader import SUPPLIES, Refused, spelled

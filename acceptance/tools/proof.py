@@ -10,7 +10,6 @@ from typing import NamedTuple
 
 from acceptance.makers.random_sources import Maker
 from acceptance.makers.source_changes import CHANGES
-from acceptance.meaning import diagrams
 from acceptance.meaning.mapping import machine_size
 from acceptance.readers.words import command, held, trouble
 from acceptance.running.places import EXAMPLES
@@ -18,6 +17,7 @@ from acceptance.running.results import Room, shown
 from acceptance.tools.answers import agrees as same_answer
 from acceptance.tools.answers import refusal
 from acceptance.tools.boom import MOST_NODES, NODES, adder, entity, multiplier, parity
+from share.formats import diagrams
 from share.formats.models import IN, OUT
 from share.formats.pat_oracle import machine_of
 from share.formats.vbe_oracle import FILE, Ring

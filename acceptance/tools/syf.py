@@ -9,7 +9,6 @@ import re
 from acceptance.makers.random_sources import changed
 from acceptance.makers.random_states import WORDS, StateMaker
 from acceptance.meaning import state_text
-from acceptance.meaning.state_codes import code_lines, codes
 from acceptance.meaning.state_machine import machine_of
 from acceptance.readers.words import TOOLS_LINE, command, held, trouble
 from acceptance.running.results import Room, compare, run_in, shown
@@ -18,6 +17,7 @@ from acceptance.tools.boom import EXAMPLES
 from acceptance.tools.sources import answer
 from share.formats import vbe_oracle
 from share.formats.fsm_oracle import state_machine
+from share.formats.state_codes import code_lines, codes
 from share.formats.state_walk import cycle, leads, reset_to
 from share.formats.vbe_oracle import FILE
 from share.formats.vhdl_reader import Refused

@@ -5,7 +5,7 @@ import os
 import pathlib
 import sys
 
-from . import ap, cellcheck, extraction, fsm_oracle, models, pat_oracle, vbe_oracle, vhdl_reader, vst
+from . import ap, cellcheck, extraction, fsm_oracle, models, pat_oracle, real, vbe_oracle, vhdl_reader, vst
 
 sys.setrecursionlimit(100000)
 
@@ -30,13 +30,14 @@ def argument(*names, **knows):
 LIBRARY = argument("library", metavar="LIBRARY", help="the folder of the library whose cells it has")
 
 
-def run(main):
-    """Runs a program: trouble is one line on standard error and status 1; a reader that goes away ends it quietly."""
+def run(main, status=1):
+    """Runs a program: trouble is one line on standard error and this status; a reader that goes away ends it quietly."""
     try:
         main()
         sys.stdout.flush()
     except Trouble as trouble:
-        sys.exit(f"{pathlib.Path(sys.argv[0]).name}: {trouble}")
+        print(f"{pathlib.Path(sys.argv[0]).name}: {trouble}", file=sys.stderr)
+        sys.exit(status)
     except BrokenPipeError:
         os.dup2(os.open(os.devnull, os.O_WRONLY), sys.stdout.fileno())
 
@@ -92,6 +93,14 @@ def patterns(path):
     return read_by(lambda data: pat_oracle.PatternReader(data).file(), path)
 
 
+def table(path):
+    """A table that leads to real units."""
+    try:
+        return real.read(held(path))
+    except ValueError as fault:
+        raise Trouble(f"{path}:{fault}") from None
+
+
 def folder(path):
     try:
         return cellcheck.folder(path)
@@ -119,5 +128,13 @@ def flat(figure, of_name, path):
     """All shapes of a layout, and which of them are joined."""
     try:
         return extraction.flat_of(figure, of_name)
+    except extraction.Refused as refused:
+        raise told(path, refused.line.replace(":", "", 1)) from None
+
+
+def netlist_of(figure, of_shapes, of_name, path):
+    """The netlist that a layout gives."""
+    try:
+        return extraction.extracted(figure, of_shapes, of_name)
     except extraction.Refused as refused:
         raise told(path, refused.line.replace(":", "", 1)) from None

@@ -8,7 +8,7 @@ Formulas are those of vbe_oracle.py; here each operator has two operands, and ea
 
 from typing import NamedTuple
 
-from share.formats.models import OUT
+from .models import OUT
 
 MOST_LISTED = 10
 GATES = {
