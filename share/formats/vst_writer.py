@@ -26,9 +26,14 @@ def net_names(n):
     return names
 
 
-def laid_out(n):
+def own_names(n):
+    """Each bit of a net as it is called."""
+    return {bit: spelled(bit) for bit in [*n.all_ports, *(net for i in n.instances for _, net in sorted(i.nets.items()))]}
+
+
+def laid_out(n, named_as_they_are=False):
     """The text of a netlist in which no two ports are one class."""
-    names = net_names(n)
+    names = own_names(n) if named_as_they_are else net_names(n)
     models = {i.model.name: i.model for i in n.instances}
     lines = [f"entity {n.name} is\nport (\n{port_lines(n.all_ports)});\nend {n.name};\n\narchitecture structural of {n.name} is\n"]
     lines += [f"component {name}\nport (\n{port_lines(model.pins)});\nend component;\n" for name, model in models.items()]
