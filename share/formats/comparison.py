@@ -105,7 +105,7 @@ def shown_by(language, top, paths, folder, ports, clock, rows):
     for words in steps:
         done = synthesis.ran(folder, *words)
         if done.returncode:
-            raise Trouble(f"{words[0]}: {synthesis.first_line(done.stderr + done.stdout, 'error')}")
+            raise Trouble(f"{words[0]}: {synthesis.first_line(done.stderr + done.stdout)}")
     return [line.removeprefix("seen ") for line in done.stdout.splitlines() if line.startswith("seen ")]
 
 

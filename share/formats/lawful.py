@@ -12,12 +12,14 @@ from .vhdl_reader import IDENT, NUMBER, RESERVED, SUPPLIES
 
 LAWFUL = re.compile(r"[A-Za-z][A-Za-z0-9_]*")
 BIT = re.compile(r"(.+)\[(0|[1-9]\d*)\]", re.S)
+MADE_UP = re.compile(r"_\d+_(\[\d+\])?|n\$\d+")
 ROOM_FOR_NUMBERS = 12
 
 
 def is_anonymous(net):
-    """Whether yosys made the name up: such begin with a dollar, or are a number between underscores."""
-    return net.startswith("$") or re.fullmatch(r"_\d+_(\[\d+\])?", net) is not None
+    """Whether a program made the name up: those of yosys begin with a dollar, or are a number between underscores; those of share/netlist are
+    `n$` and a number."""
+    return net.startswith("$") or MADE_UP.fullmatch(net) is not None
 
 
 def cleaned(name):

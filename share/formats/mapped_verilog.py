@@ -24,8 +24,6 @@ def tokens_of(text):
     found, line = [], 1
     for token in TOKEN.finditer(text):
         kind = token.lastgroup
-        if kind == "other":
-            raise Unfit(line, f"`{token[0]}` has no place in a module of instances; other Verilog goes through share/synth")
         if kind != "blank":
             found.append((kind, token[kind], line))
         line += token[0].count("\n")

@@ -112,16 +112,12 @@ class Linker:
             root = self.root(net)
             if root not in self.constants and root not in flat.inputs:
                 self.shown.setdefault(root, net)
-        roots = {self.root(net) for _, pins in self.pins for net in pins.values()}
+        roots = dict.fromkeys(self.root(net) for _, pins in self.pins for net in pins.values())
         inner = [net for net in roots if net not in flat.inputs and net not in self.constants and net not in self.shown]
-        inner = sorted(inner, key=lawful.is_anonymous)
-        self.nets, self.renamed, self.anonymous = {}, lawful.said_anew(self.ports, [*flat.inputs, *flat.outputs]), 0
-        for net in inner:
-            name = names.next_of("n") if lawful.is_anonymous(net) else names.new(net)
-            self.nets[net] = (name, -1)
-            self.anonymous += lawful.is_anonymous(net)
-            if not lawful.is_anonymous(net) and name != net.lower():
-                self.renamed[net] = name
+        self.inner, anonymous = lawful.declare(names, inner)
+        self.renamed = {**lawful.said_anew(self.ports, self.ports.of_net), **lawful.said_anew(self.inner, self.inner.of_net)}
+        lawful.declare_anonymous(names, self.inner, anonymous)
+        self.anonymous = len(anonymous)
         self.names = names
 
     def net(self, net):
@@ -129,7 +125,7 @@ class Linker:
         if root in self.constants:
             return CONSTANTS[self.constants[root]]
         port = root if root in self.flat.inputs else self.shown.get(root)
-        return self.ports.key(port) if port else self.nets[root]
+        return self.ports.key(port) if port else self.inner.key(root)
 
     # instances
 

@@ -40,7 +40,7 @@ flatten
 {initial}
 opt_expr
 opt_clean
-check
+check -assert
 opt -nodffe -nosdff
 wreduce
 peepopt
@@ -52,13 +52,13 @@ memory -nomap
 opt_clean
 opt -fast -full
 memory_map
-opt -undriven -fine
+opt -fine
 techmap -map ripple.v
 techmap
 opt -fast
 {resets}
 dfflegalize -cell $_DFF_?_ 01 -cell $_DFF_???_ 01 -cell $_DFFSR_???_ 01 -cell $_ALDFF_??_ 01 -cell $_DLATCH_?_ 01 -cell $_DLATCH_???_ 01 -cell $_SR_??_ 01
-opt_expr -mux_undef -undriven
+opt_expr -mux_undef
 opt_merge
 opt_clean
 setundef -zero
@@ -80,7 +80,7 @@ KEYWORDS = verilog.RESERVED - set(
     signed time unsigned use wait while xnor xor""".split()
 )
 ENDING = "_of_vhdl"
-VHDL_WORD = re.compile(r"--[^\n]*|\"[^\"\n]*\"|'.'|[A-Za-z]\w*|\\\\[^\\\\]*\\\\")
+VHDL_WORD = re.compile(r"--[^\n]*|\"[^\"\n]*\"|'.'|[A-Za-z]\w*|\\[^\\]*\\")
 
 
 def need(program):
@@ -100,10 +100,11 @@ def ran(folder, *words):
     return subprocess.run([str(word) for word in words], cwd=folder, capture_output=True, text=True, errors="replace", timeout=SECONDS, check=False)
 
 
-def first_line(text, *signs):
-    """The first line that has one of these signs, or the last one."""
+def first_line(text):
+    """The first line that says an error, with a place in a file or without, else the last one."""
     lines = [line for line in text.splitlines() if line.strip()]
-    return next((line for sign in signs for line in lines if sign in line), lines[-1] if lines else "it ended without a word")
+    told = next((line for line in lines if re.search(r"\berror\b|:\d+:\d+: (?!warning|note)", line, re.I)), None)
+    return told or (lines[-1] if lines else "it ended without a word")
 
 
 def modules_of(text, opened):
@@ -147,19 +148,26 @@ def without_keywords(text):
 def verilog_of(top, paths, folder):
     """The Verilog that GHDL makes of VHDL. The names that it made up are marked, so that yosys hides them."""
     need("ghdl")
-    copies = []
-    for number, path in enumerate(paths):
-        copies.append(folder / f"{number}_{path.name}")
-        copies[-1].write_text(without_keywords(path.read_text(errors="replace")))
-    made = {}
+    copies, made = {folder / f"{number}_{path.name}": path for number, path in enumerate(paths)}, {}
+    for copy, path in copies.items():
+        copy.write_text(without_keywords(path.read_text(errors="replace")))
     for form in ("verilog", "vhdl"):
         done = ran(folder, "ghdl", "synth", "--std=08", f"--out={form}", *copies, "-e", top)
         if done.returncode or not done.stdout.strip():
-            raise Trouble(f"ghdl: {first_line(done.stderr, 'error:', ':error').replace(f'{folder}/', '')}")
+            line = first_line(done.stderr)
+            copy = next((copy for copy in copies if line.startswith(f"{copy}:")), None)
+            raise Trouble(f"ghdl: {line.replace(str(copy), str(copies[copy])) if copy else line}")
         made[form] = done.stdout
     path = folder / "of_vhdl.v"
     path.write_text(MADE_BY_GHDL.sub(lambda found: f"{MARK}{found[0]}", with_defaults(made["verilog"], made["vhdl"])))
     return path
+
+
+def cause_of(told):
+    """Why yosys ended; where its check found something, what it found first."""
+    line = first_line(told)
+    found = re.search(r"Warning: ((?:Wire|multiple|found) .*?):?$", told, re.M) if "check -assert" in line else None
+    return found[1].replace("\\", "") if found else line
 
 
 def blif_of(top, paths, folder, sync_reset, without_initial):
@@ -172,7 +180,7 @@ def blif_of(top, paths, folder, sync_reset, without_initial):
     done = ran(folder, "yosys", "-q", "-s", "script.ys")
     made = folder / "netlist.blif"
     if done.returncode or not made.exists():
-        raise Trouble(f"yosys: {first_line(done.stderr + done.stdout, 'ERROR')}")
+        raise Trouble(f"yosys: {cause_of(done.stderr + done.stdout)}")
     return made.read_text().replace(ENDING, "")
 
 
