@@ -19,6 +19,7 @@ from share.formats.vst_writer import laid_out
 SECONDS = 300
 PROGRAMS = sorted(path.name for path in SHARE.iterdir() if path.is_file() and os.access(path, os.X_OK))
 CHECKING = EXAMPLES / "checking"
+OWN_WORDS = {"import": ["nowhere.blif", "-o", "n"], "synth": ["top", "nowhere.v", "-o", "n"]}
 
 
 def ran(name, *words, given=b""):
@@ -38,7 +39,7 @@ def check_words(results):
         results.note(f"{name} has a page", is_there, str(page))
         ending = {"states": ".fsm", "vhdl": ".vbe", "netlist": ".vst"}.get(name, ".x")
         more = [] if name in ("waves", "states", "vhdl") else ["report"] if name == "registers" else [CELLS]
-        words = ["nowhere"] if name == "liberty" else [f"nowhere{ending}", *more]
+        words = OWN_WORDS.get(name) or (["nowhere"] if name == "liberty" else [f"nowhere{ending}", *more])
         status, out, err = ran(name, *words)
         results.note(f"{name} without its file", status == 1 and not out and err.count("\n") == 1 and err.startswith(f"{name}: "), out + err)
 

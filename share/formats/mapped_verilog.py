@@ -20,14 +20,14 @@ BEHAVIOUR = {"always", "initial", "reg", "parameter", "localparam", "function", 
 
 
 def tokens_of(text):
-    """Tokens as (kind, value, line)."""
+    """Tokens as (kind, value, line), and the line of the last one."""
     found, line = [], 1
     for token in TOKEN.finditer(text):
         kind = token.lastgroup
         if kind != "blank":
             found.append((kind, token[kind], line))
         line += token[0].count("\n")
-    return found, line
+    return found, found[-1][2] if found else 1
 
 
 class Reader:

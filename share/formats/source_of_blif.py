@@ -282,6 +282,9 @@ class Writer:
         constant = cover.constant()
         if constant is not None:
             return Term(f"'{constant}'", 0, True)
+        if len(cover.rows) == 1 and len(read_by(cover.rows[0])) == 1:
+            [k] = read_by(cover.rows[0])
+            return self.bit(cover.inputs[k], cover.rows[0][k] == str(cover.value))
         parity = parity_of(cover)
         if parity is not None:
             return self.parity(parity, [self.bit(net) for net in cover.inputs])
