@@ -19,6 +19,7 @@ from share.formats.vst_writer import laid_out
 SECONDS = 300
 PROGRAMS = sorted(path.name for path in SHARE.iterdir() if path.is_file() and os.access(path, os.X_OK))
 CHECKING, START = EXAMPLES / "checking", EXAMPLES / "real/start.real"
+OWN_WORDS = {"import": ["nowhere.blif", "-o", "n"], "synth": ["top", "nowhere.v", "-o", "n"]}
 
 
 def ran(name, *words, given=b""):
@@ -40,7 +41,7 @@ def check_words(results):
             continue
         ending = {"states": ".fsm", "vhdl": ".vbe", "netlist": ".vst", "recheck": ".vbe"}.get(name, ".x")
         more = {"waves": [], "states": [], "vhdl": [], "registers": ["report"], "gds": [CELLS, START], "recheck": ["l.ap", CELLS]}.get(name, [CELLS])
-        words = ["nowhere"] if name in ("liberty", "lef", "cellcheck") else [f"nowhere{ending}", *more]
+        words = OWN_WORDS.get(name) or (["nowhere"] if name in ("liberty", "lef", "cellcheck") else [f"nowhere{ending}", *more])
         wanted = 2 if name == "recheck" else 1
         status, out, err = ran(name, *words)
         results.note(f"{name} without its file", status == wanted and not out and err.count("\n") == 1 and err.startswith(f"{name}: "), out + err)

@@ -54,6 +54,17 @@ def text_of(path):
     return held(path).decode(errors="replace")
 
 
+def write(path, text):
+    """Writes a file whole, by way of one beside it."""
+    beside = pathlib.Path(f"{path}.part")
+    try:
+        beside.write_text(text)
+        beside.replace(path)
+    except OSError as error:
+        beside.unlink(missing_ok=True)
+        raise Trouble(f"{path}: {error.strerror}") from None
+
+
 def told(path, refused):
     """What a reader says of a file, in the words of the program: `FILE:LINE: FAULT`, or a limit."""
     said = str(refused).removeprefix("input ")

@@ -2,7 +2,7 @@
 
 import itertools
 
-from .vhdl_reader import spelled
+from .vhdl_reader import SUPPLIES, spelled
 
 
 def port_lines(ports):
@@ -26,13 +26,27 @@ def net_names(n):
     return names
 
 
-def laid_out(n):
+def own_names(n):
+    """Each bit of a net as it is called."""
+    return {bit: spelled(bit) for bit in [*n.all_ports, *(net for i in n.instances for _, net in sorted(i.nets.items()))]}
+
+
+def signal_lines(bits):
+    """Signals of these bits, those of one name as one vector."""
+    of_name = {}
+    for name, k in bits:
+        of_name.setdefault(name, []).append(k)
+    return [f"signal {name} : {'bit' if ks == [-1] else f'bit_vector ({max(ks)} downto {min(ks)})'};\n" for name, ks in of_name.items()]
+
+
+def laid_out(n, named_as_they_are=False):
     """The text of a netlist in which no two ports are one class."""
-    names = net_names(n)
+    names = own_names(n) if named_as_they_are else net_names(n)
     models = {i.model.name: i.model for i in n.instances}
     lines = [f"entity {n.name} is\nport (\n{port_lines(n.all_ports)});\nend {n.name};\n\narchitecture structural of {n.name} is\n"]
     lines += [f"component {name}\nport (\n{port_lines(model.pins)});\nend component;\n" for name, model in models.items()]
-    lines += [f"signal {name} : bit;\n" for bit, name in names.items() if bit not in n.all_ports]
+    inner = [bit if named_as_they_are else (name, -1) for bit, name in names.items() if bit not in n.all_ports]
+    lines += signal_lines(bit for bit in inner if bit[0] not in SUPPLIES)
     lines.append("begin\n")
     for instance in n.instances:
         pairs = ",\n".join(f"  {spelled(pin)} => {names[net]}" for pin, net in sorted(instance.nets.items()))
