@@ -143,6 +143,13 @@ def flat(figure, of_name, path):
         raise told(path, refused.line.replace(":", "", 1)) from None
 
 
+def check_cells(figure, of_name, path):
+    """That the library has the cells of all instances."""
+    unknown = next((i.model for i in extraction.instances_of(figure) if i.model not in of_name), None)
+    if unknown is not None:
+        raise Trouble(f"{path}:1: unknown cell {unknown}")
+
+
 def netlist_of(figure, of_shapes, of_name, path):
     """The netlist that a layout gives."""
     try:
