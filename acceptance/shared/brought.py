@@ -128,7 +128,8 @@ renamed out out_1
 renamed u1.s u1_s
 renamed 2-bit n2_bit
 """
-PORTS = ["ck : in bit", "in_1 : in bit_vector (1 downto 0)", "a : in bit", "a_1 : in bit", "x_0 : in bit", "out_1 : out bit", "q : out bit_vector (3 downto 2)"]
+PORTS = ["ck : in bit", "in_1 : in bit_vector (1 downto 0)", "a : in bit", "a_1 : in bit", "x_0 : in bit", "out_1 : out bit"]
+PORTS += ["q : out bit_vector (3 downto 2)"]
 # The design and its simulation differ, since the list of `always` lacks b.
 UNEQUAL = "module m (input a, b, output reg q);\n  always @(a) q = a & b;\nendmodule\n"
 SYNTH_REFUSED = [
@@ -246,7 +247,8 @@ def check_synth_words(results):
         (room.folder / "m.v").write_text(UNEQUAL)
         (room.folder / "m.vhd").write_text("")
         for words, cause in (
-            (["m.v"], "yosys isn't installed"), (["m.vhd"], "ghdl isn't installed"), (["m.v", "m.vhd"], "have to end all in"), (["none.v"], "No such file"),
+            (["m.v"], "yosys isn't installed"), (["m.vhd"], "ghdl isn't installed"), (["m.v", "m.vhd"], "have to end all in"),
+            (["none.v"], "No such file"),
         ):
             got = ran(room, "synth", "m", *words, "-o", "n", path=str(room.folder))
             results.note(f"synth says: {cause}", is_refused(got, "synth: ", cause), str(got))
