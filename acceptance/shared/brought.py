@@ -219,8 +219,10 @@ def check_cells(results, program, name):
             got = ran(room, "import", f"n{ending}", CELLS, "-o", "m")
             room.run(program, ["flatbeh", "n.vst", "-l", str(CELLS), "-o", "n"])
             room.run(program, ["flatbeh", "m.vst", "-l", str(CELLS), "-o", "m"])
-            equal = room.run(program, ["lvx", "m.vst", "-b", "n.vst", "-l", str(CELLS)])
-            results.note(f"{name} as {ending} and back", got[0] == 0 and (equal == (0, b"same\n") or ending == ".blif"), f"{got} {equal}")
+            same = room.run(program, ["lvx", "m.vst", "-b", "n.vst", "-l", str(CELLS)])
+            equal = room.run(program, ["proof", "m.vbe", "-b", "n.vbe"])
+            told = f"{got} {same} {equal}"
+            results.note(f"{name} as {ending} and back", got[0] == 0 and same == (0, b"same\n") and equal == (0, b"equal\n"), told)
             steps = [["loon", "m.vst", "-o", "l"], ["ocp", "m.vst", "-o", "p"], ["nero", "m.vst", "-p", "p.ap", "-o", "r"]]
             done = [room.run(program, [*step, "-l", str(CELLS)])[0] for step in steps]
             results.note(f"loon, ocp and nero take {name} from {ending}", done == [0, 0, 0], str(done))
