@@ -154,8 +154,9 @@ def verilog_of(top, paths, folder):
         copy.write_text(without_keywords(path.read_text(errors="replace")))
     for form in ("verilog", "vhdl"):
         done = ran(folder, "ghdl", "synth", "--std=08", f"--out={form}", *copies, "-e", top)
-        if done.returncode or not done.stdout.strip():
-            line = first_line(done.stderr)
+        unassigned = re.search(r"^.*is never assigned and has no default value$", done.stderr, re.M)
+        if done.returncode or not done.stdout.strip() or unassigned:
+            line = unassigned[0] if unassigned else first_line(done.stderr)
             copy = next((copy for copy in copies if line.startswith(f"{copy}:")), None)
             raise Trouble(f"ghdl: {line.replace(str(copy), str(copies[copy])) if copy else line}")
         made[form] = done.stdout
