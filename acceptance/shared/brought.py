@@ -6,10 +6,11 @@ import re
 import shutil
 import subprocess
 import sys
+from types import SimpleNamespace
 
-from acceptance.running.places import CELLS, EXAMPLES, SHARE
+from acceptance.running.places import BENCH, CELLS, EXAMPLES, SHARE
 from acceptance.running.results import Room
-from share.formats import files
+from share.formats import benches, blif_reader, comparison, files, lawful
 
 SECONDS = 300
 COURSE = EXAMPLES / "course"
@@ -128,7 +129,17 @@ renamed out out_1
 renamed u1.s u1_s
 renamed 2-bit n2_bit
 """
-PORTS = ["ck : in bit", "in_1 : in bit_vector (1 downto 0)", "a : in bit", "a_1 : in bit", "x_0 : in bit", "out_1 : out bit", "q : out bit_vector (3 downto 2)"]
+PORTS = ["ck : in bit", "in_1 : in bit_vector (1 downto 0)", "a : in bit", "a_1 : in bit", "x_0 : in bit", "out_1 : out bit"]
+PORTS += ["q : out bit_vector (3 downto 2)"]
+MAPPING = """read_verilog {source}
+synth -flatten -noabc -top uart
+dfflegalize -cell $_DFF_P_ x
+dfflibmap -liberty cells.lib
+abc -genlib cells.genlib
+opt_clean -purge
+write_blif m.blif
+write_verilog -noattr -noexpr m.v
+"""
 # The design and its simulation differ, since the list of `always` lacks b.
 UNEQUAL = "module m (input a, b, output reg q);\n  always @(a) q = a & b;\nendmodule\n"
 SYNTH_REFUSED = [
@@ -140,6 +151,15 @@ SYNTH_REFUSED = [
     ("always @(posedge ck) q <= q ^ a;", [], "nothing could be compared"),
     ("always @(posedge ck) q <= a;", ["--reset", "z"], "--reset z: it is NAME"),
 ]
+# What stands in an architecture with a signal x, and words of the cause.
+VHDL_REFUSED = [
+    ("process (a, b) begin if b = '1' then q <= a; end if; end process;", "latch"),
+    ("q <= x and a;", '"x" is never assigned'),
+    ("process (ck, b) begin if b = '1' then q <= '0'; elsif rising_edge(ck) then q <= a; end if; end process;", "asynchronous set or reset"),
+    ("process (ck) begin if falling_edge(ck) then q <= a; end if; end process;", "q loads when its clock falls"),
+    ("q <= y;", 'no declaration for "y"'),
+]
+VHDL_HEAD = "library ieee;\nuse ieee.std_logic_1164.all;\nentity m is port (ck, a, b : in std_logic; q : out std_logic); end m;\n"
 
 
 def ran(room, name, *words, path=None):
@@ -218,8 +238,10 @@ def check_cells(results, program, name):
             got = ran(room, "import", f"n{ending}", CELLS, "-o", "m")
             room.run(program, ["flatbeh", "n.vst", "-l", str(CELLS), "-o", "n"])
             room.run(program, ["flatbeh", "m.vst", "-l", str(CELLS), "-o", "m"])
-            equal = room.run(program, ["lvx", "m.vst", "-b", "n.vst", "-l", str(CELLS)])
-            results.note(f"{name} as {ending} and back", got[0] == 0 and (equal == (0, b"same\n") or ending == ".blif"), f"{got} {equal}")
+            same = room.run(program, ["lvx", "m.vst", "-b", "n.vst", "-l", str(CELLS)])
+            equal = room.run(program, ["proof", "m.vbe", "-b", "n.vbe"])
+            told = f"{got} {same} {equal}"
+            results.note(f"{name} as {ending} and back", got[0] == 0 and same == (0, b"same\n") and equal == (0, b"equal\n"), told)
             steps = [["loon", "m.vst", "-o", "l"], ["ocp", "m.vst", "-o", "p"], ["nero", "m.vst", "-p", "p.ap", "-o", "r"]]
             done = [room.run(program, [*step, "-l", str(CELLS)])[0] for step in steps]
             results.note(f"loon, ocp and nero take {name} from {ending}", done == [0, 0, 0], str(done))
@@ -246,7 +268,8 @@ def check_synth_words(results):
         (room.folder / "m.v").write_text(UNEQUAL)
         (room.folder / "m.vhd").write_text("")
         for words, cause in (
-            (["m.v"], "yosys isn't installed"), (["m.vhd"], "ghdl isn't installed"), (["m.v", "m.vhd"], "have to end all in"), (["none.v"], "No such file"),
+            (["m.v"], "yosys isn't installed"), (["m.vhd"], "ghdl isn't installed"), (["m.v", "m.vhd"], "have to end all in"),
+            (["none.v"], "No such file"),
         ):
             got = ran(room, "synth", "m", *words, "-o", "n", path=str(room.folder))
             results.note(f"synth says: {cause}", is_refused(got, "synth: ", cause), str(got))
@@ -271,6 +294,18 @@ def check_synth_refusals(results):
             results.note(f"synth refuses: {cause}", is_refused(got, "synth: ", cause), str(got))
 
 
+def check_vhdl_refusals(results):
+    lacks = missing("yosys", "ghdl")
+    if lacks:
+        results.skip(f"{lacks} isn't installed")
+        return
+    with Room() as room:
+        for body, cause in VHDL_REFUSED:
+            (room.folder / "m.vhd").write_text(f"{VHDL_HEAD}architecture r of m is\n  signal x : std_logic;\nbegin\n  {body}\nend r;\n")
+            got = ran(room, "synth", "m", "m.vhd", "-o", "n")
+            results.note(f"synth refuses VHDL: {cause}", is_refused(got, "synth: ", cause), str(got))
+
+
 def check_course(results, program, path):
     """A circuit is made a source, which shows what the circuit shows, and laid out."""
     lacks = missing("yosys", "iverilog" if path.suffix == ".v" else "ghdl")
@@ -286,6 +321,40 @@ def check_course(results, program, path):
         results.note(f"flow lays {path.name} out", laid[0] == 0 and b"\naccepted\n" in laid[1], str(laid)[:500])
 
 
+def check_mapped(results, program):
+    """A netlist that yosys maps to the row library comes in, and shows what its design shows in Icarus Verilog."""
+    lacks = missing("yosys", "iverilog")
+    if lacks:
+        results.skip(f"{lacks} isn't installed")
+        return
+    with Room() as room:
+        (room.folder / "cells.lib").write_text(ran(room, "liberty", CELLS)[1])
+        genlib = subprocess.run([sys.executable, BENCH / "areas.py", "--genlib", CELLS], capture_output=True, text=True, check=False)
+        (room.folder / "cells.genlib").write_text(genlib.stdout)
+        (room.folder / "map.ys").write_text(MAPPING.format(source=COURSE / "uart.v"))
+        done = subprocess.run(["yosys", "-q", "-s", "map.ys"], cwd=room.folder, capture_output=True, text=True, timeout=SECONDS, check=False)
+        for name in ("m.blif", "m.v"):
+            got = ran(room, "import", name, CELLS, "-o", "m")
+            results.note(f"import takes {name} of yosys", got[0] == 0 and "registers 16\n" in got[1], f"{got} {done.stderr[:500]}")
+            steps = [["flatbeh", "m.vst", "-o", "m"], ["loon", "m.vst", "-o", "l"], ["ocp", "m.vst", "-o", "p"]]
+            taken = [room.run(program, [*step, "-l", str(CELLS)])[0] for step in steps]
+            results.note(f"the tools take {name} of yosys", taken == [0, 0, 0], str(taken))
+            check_against_design(results, room, name)
+
+
+def check_against_design(results, room, name):
+    flat, _ = blif_reader.read((room.folder / "m.blif").read_text())
+    ports = benches.ports_of(flat.inputs), benches.ports_of(flat.outputs)
+    design = benches.Design("verilog", "uart", [COURSE / "uart.v"], *ports, "clk")
+    keys = SimpleNamespace(key=lambda net: (lawful.base_of(net)[0], -1 if lawful.base_of(net)[1] is None else lawful.base_of(net)[1]))
+    made = SimpleNamespace(text=(room.folder / "m.vbe").read_text(), ports=keys)
+    try:
+        compared, _ = comparison.compare(design, room.folder, made, SimpleNamespace(seed=1, reset=None, vectors=256, sync_reset=False))
+        results.note(f"{name} of yosys shows what its design does", compared.bits > 500, f"{compared.bits} of {compared.all_bits}")
+    except files.Trouble as trouble:
+        results.note(f"{name} of yosys shows what its design does", False, str(trouble))
+
+
 def check_both(results):
     """Each circuit stands in both languages, and in the table of the page."""
     page = (COURSE / "README.md").read_text()
@@ -299,6 +368,7 @@ def jobs(program):
         yield check_course, (program, path)
     yield check_long, (program,)
     yield check_forms, (program,)
+    yield check_mapped, (program,)
     yield check_names, (program,)
     yield from ((check_cells, (program, name)) for name in ("counter/cnt4.vbe", "alu/alu8.vbe"))
-    yield from ((check, ()) for check in (check_refusals, check_joined, check_synth_words, check_synth_refusals, check_both))
+    yield from ((check, ()) for check in (check_refusals, check_joined, check_synth_words, check_synth_refusals, check_vhdl_refusals, check_both))

@@ -4,6 +4,7 @@ A row is the bits of all inputs but the clock, one after another, each from the 
 """
 
 import re
+from typing import NamedTuple
 
 from .files import Trouble
 from .lawful import base_of
@@ -13,7 +14,6 @@ VHDL_TYPES = {
     "std_logic": ("{0}", "{0}"), "std_ulogic": ("{0}", "{0}"), "bit": ("to_bit({0})", "{0}"), "boolean": ("({0} = '1')", None),
     "std_logic_vector": ("{0}", "{0}"), "std_ulogic_vector": ("{0}", "{0}"), "bit_vector": ("to_bitvector({0})", "{0}"),
     "unsigned": ("unsigned({0})", "std_logic_vector({0})"), "signed": ("signed({0})", "std_logic_vector({0})"),
-    "integer": ("to_integer(unsigned({0}))", None), "natural": ("to_integer(unsigned({0}))", None), "positive": ("to_integer(unsigned({0}))", None),
 }
 
 
@@ -24,6 +24,24 @@ class Port:
         self.name, self.nets = name, nets
         first, last = base_of(nets[0])[1], base_of(nets[-1])[1]
         self.bounds = None if first is None else (first, last)
+
+
+class Design(NamedTuple):
+    """What is simulated: a module or entity of files, with its ports and its clock or None."""
+
+    language: str
+    top: str
+    paths: list
+    inputs: list
+    outputs: list
+    clock: str
+
+    def ports(self):
+        return [*self.inputs, *self.outputs]
+
+    def given(self):
+        """The inputs that vectors give."""
+        return [p for p in self.inputs if p.name != self.clock]
 
 
 def ports_of(nets):
@@ -41,18 +59,19 @@ def word(name):
     return name if SIMPLE.fullmatch(name) else f"\\{name} "
 
 
-def verilog_bench(top, inputs, outputs, clock, rows):
-    spans = {p.name: f"[{p.bounds[0]}:{p.bounds[1]}] " if p.bounds else "" for p in [*inputs, *outputs]}
-    given = [word(p.name) for p in inputs if p.name != clock] + ["synth_unread"]
-    lines = [f"  reg {spans[p.name]}{word(p.name)};" for p in inputs] + [f"  wire {spans[p.name]}{word(p.name)};" for p in outputs]
-    pins = ", ".join(f".{word(p.name)}({word(p.name)})" for p in [*inputs, *outputs])
-    rise = f"{word(clock)} = 1; #5 {word(clock)} = 0;" if clock else "#5;"
-    width = len(rows[0])
+def verilog_bench(design, rows):
+    spans = {p.name: f"[{p.bounds[0]}:{p.bounds[1]}] " if p.bounds else "" for p in design.ports()}
+    given = [*(word(p.name) for p in design.given()), "synth_unread"]
+    pins = ", ".join(f".{word(p.name)}({word(p.name)})" for p in design.ports())
+    clock = word(design.clock) if design.clock else "synth_unread"
     return "\n".join([
-        "`timescale 1ns/1ns", "module synth_bench;", *lines, "  reg synth_unread;", f"  reg [{width - 1}:0] synth_given [0:{len(rows) - 1}];", "  integer synth_k;",
-        f"  {word(top)} synth_dut ({pins});", "  initial begin", '    $readmemb("given.txt", synth_given);', f"    {word(clock)} = 0;" if clock else "",
+        "`timescale 1ns/1ns", "module synth_bench;",
+        *(f"  reg {spans[p.name]}{word(p.name)};" for p in design.inputs), *(f"  wire {spans[p.name]}{word(p.name)};" for p in design.outputs),
+        "  reg synth_unread;", f"  reg [{len(rows[0]) - 1}:0] synth_given [0:{len(rows) - 1}];", "  integer synth_k;",
+        f"  {word(design.top)} synth_dut ({pins});", "  initial begin", '    $readmemb("given.txt", synth_given);', f"    {clock} = 0;",
         f"    for (synth_k = 0; synth_k < {len(rows)}; synth_k = synth_k + 1) begin", f"      {{{', '.join(given)}}} = synth_given[synth_k];",
-        f'      #5 $display("seen %b", {{{", ".join(word(p.name) for p in outputs)}}});', f"      {rise}", "    end", "    $finish;", "  end", "endmodule", "",
+        f'      #5 $display("seen %b", {{{", ".join(word(p.name) for p in design.outputs)}}});', f"      {clock} = 1; #5 {clock} = 0;",
+        "    end", "    $finish;", "  end", "endmodule", "",
     ])
 
 
@@ -83,36 +102,53 @@ def vhdl_type(port, types):
     """The words for a port: its type in the bench, how it is made of bits, and how it is shown as a text."""
     kind = types.get(port.name.lower())
     if kind not in VHDL_TYPES:
-        raise Trouble(f"the port {port.name} has a type that no bench is written for; --no-compare leaves the comparison out")
+        raise Trouble(f"the port {port.name} has the type {kind}, for which there is no bench; --no-compare leaves the comparison out")
     made, shown = VHDL_TYPES[kind]
     width = len(port.nets)
-    if kind in ("integer", "natural", "positive"):
-        return f"{kind} range 0 to {2 ** width - 1}", made, f"std_logic_vector(to_unsigned({{0}}, {width}))"
     if kind == "boolean":
         return kind, made, "synth_bit({0})"
     return (f"{kind} ({width - 1} downto 0)" if port.bounds else kind), made, shown
 
 
-def vhdl_bench(top, inputs, outputs, clock, rows, types):
-    words = {p.name: vhdl_type(p, types) for p in [*inputs, *outputs]}
-    lines = [f"  signal {p.name} : {words[p.name][0]}{(' := ' + zero(words[p.name][0])) if p.name == clock else ''};" for p in [*inputs, *outputs]]
-    width, at, takes = len(rows[0]), 0, []
-    for p in inputs:
-        if p.name != clock:
-            bits = f"synth_given(synth_k)({at} to {at + len(p.nets) - 1})" if " (" in words[p.name][0] or "range" in words[p.name][0] else f"synth_given(synth_k)({at})"
-            takes.append(f"      {p.name} <= {words[p.name][1].format(bits)};")
-            at += len(p.nets)
-    shown = " & ".join(f"to_string({words[p.name][2].format(p.name)})" for p in outputs)
-    rise = [f"      {clock} <= {one(words[clock][0])};", "      wait for 5 ns;", f"      {clock} <= {zero(words[clock][0])};"] if clock else []
+def vhdl_takes(design, words):
+    """Assignments of a row's bits to the inputs."""
+    at = 0
+    for p in design.given():
+        kind, made, _ = words[p.name]
+        bits = f"({at} to {at + len(p.nets) - 1})" if "(" in kind else f"({at})"
+        yield f"      {p.name} <= {made.format(f'synth_given(synth_k){bits}')};"
+        at += len(p.nets)
+
+
+def vhdl_declared(design, words):
+    for p in design.ports():
+        kind = words[p.name][0]
+        yield f"  signal {p.name} : {kind}{f' := {zero(kind)}' if p.name == design.clock else ''};"
+
+
+def vhdl_rise(design, words):
+    """The clock rises, and falls after a while."""
+    if not design.clock:
+        return []
+    kind = words[design.clock][0]
+    return [f"      {design.clock} <= {one(kind)};", "      wait for 5 ns;", f"      {design.clock} <= {zero(kind)};"]
+
+
+def vhdl_bench(design, rows, types):
+    words = {p.name: vhdl_type(p, types) for p in design.ports()}
+    shown = " & ".join(f"to_string({words[p.name][2].format(p.name)})" for p in design.outputs)
     table = ",\n    ".join(f'"{row}"' for row in rows)
     return "\n".join([
-        "library ieee;", "use ieee.std_logic_1164.all;", "use ieee.numeric_std.all;", "use std.textio.all;", "entity synth_bench is", "end synth_bench;",
-        "architecture bench of synth_bench is", f"  type synth_rows is array (0 to {len(rows) - 1}) of std_logic_vector(0 to {width - 1});",
-        f"  constant synth_given : synth_rows := (\n    {table});", *lines,
+        "library ieee;", "use ieee.std_logic_1164.all;", "use ieee.numeric_std.all;", "use std.textio.all;",
+        "entity synth_bench is", "end synth_bench;",
+        "architecture bench of synth_bench is",
+        f"  type synth_rows is array (0 to {len(rows) - 1}) of std_logic_vector(0 to {len(rows[0]) - 1});",
+        f"  constant synth_given : synth_rows := (\n    {table});", *vhdl_declared(design, words),
         "  function synth_bit(b : boolean) return bit is begin if b then return '1'; else return '0'; end if; end;", "begin",
-        f"  synth_dut : entity work.{top} port map ({', '.join(f'{p.name} => {p.name}' for p in [*inputs, *outputs])});",
-        "  process", "    variable synth_line : line;", "  begin", "    for synth_k in synth_rows'range loop", *takes, "      wait for 5 ns;",
-        f'      write(synth_line, string\'("seen ") & {shown});', "      writeline(std.textio.output, synth_line);", *rise, "    end loop;", "    wait;", "  end process;", "end bench;", "",
+        f"  synth_dut : entity work.{design.top} port map ({', '.join(f'{p.name} => {p.name}' for p in design.ports())});",
+        "  process", "    variable synth_line : line;", "  begin", "    for synth_k in synth_rows'range loop", *vhdl_takes(design, words),
+        "      wait for 5 ns;", f'      write(synth_line, string\'("seen ") & {shown});', "      writeline(std.textio.output, synth_line);",
+        *vhdl_rise(design, words), "    end loop;", "    wait;", "  end process;", "end bench;", "",
     ])
 
 

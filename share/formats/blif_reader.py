@@ -66,8 +66,10 @@ class Flat:
         self.covers, self.latches, self.instances = [], [], []
 
     def add_port(self, line, ports, net):
+        if net in ports:
+            raise Unfit(line, f"the port {net} stands twice")
         if net in self.inputs or net in self.outputs:
-            raise Unfit(line, f"the port {net} stands twice" if net in ports else f"the port {net} is input and output at once; there are no such ports here")
+            raise Unfit(line, f"the port {net} is input and output at once; there are no such ports here")
         ports[net] = line
 
 

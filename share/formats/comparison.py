@@ -87,60 +87,65 @@ def vectors(inputs, reset, count, chance, resets_again):
         yield dict(now)
 
 
-def shown_by(language, top, paths, folder, ports, clock, rows):
-    """What the simulator shows of the outputs, for each row."""
-    inputs, outputs = ports
-    if language == "verilog":
+def steps_of(design, folder, rows):
+    """The commands that run a design, for which the bench is written."""
+    files = [path.resolve() for path in design.paths]
+    if design.language == "verilog":
         synthesis.need("iverilog")
         (folder / "given.txt").write_text("\n".join(rows) + "\n")
-        (folder / "bench.v").write_text(benches.verilog_bench(top, inputs, outputs, clock, rows))
-        modern = ["-g2012"] if any(path.suffix == ".sv" for path in paths) else []
-        files = [path.resolve() for path in paths]
-        steps = [["iverilog", *modern, "-s", "synth_bench", "-o", "bench.vvp", *files, "bench.v"], ["vvp", "-n", "bench.vvp"]]
-    else:
-        types = benches.entity_types(top, [path.read_text(errors="replace") for path in paths])
-        (folder / "bench.vhd").write_text(benches.vhdl_bench(top, inputs, outputs, clock, rows, types))
-        steps = [["ghdl", "-a", "--std=08", *(path.resolve() for path in paths), "bench.vhd"], ["ghdl", "-e", "--std=08", "synth_bench"],
-                 ["ghdl", "-r", "--std=08", "synth_bench", "--ieee-asserts=disable"]]
-    for words in steps:
+        (folder / "bench.v").write_text(benches.verilog_bench(design, rows))
+        modern = ["-g2012"] if any(path.suffix == ".sv" for path in files) else []
+        return [["iverilog", *modern, "-s", "synth_bench", "-o", "bench.vvp", *files, "bench.v"], ["vvp", "-n", "bench.vvp"]]
+    types = benches.entity_types(design.top, [path.read_text(errors="replace") for path in files])
+    (folder / "bench.vhd").write_text(benches.vhdl_bench(design, rows, types))
+    return [["ghdl", "-a", "--std=08", *files, "bench.vhd"], ["ghdl", "-e", "--std=08", "synth_bench"],
+            ["ghdl", "-r", "--std=08", "synth_bench", "--ieee-asserts=disable"]]
+
+
+def shown_by(design, folder, rows):
+    """What the simulator shows of the outputs, for each row."""
+    for words in steps_of(design, folder, rows):
         done = synthesis.ran(folder, *words)
         if done.returncode:
             raise Trouble(f"{words[0]}: {synthesis.first_line(done.stderr + done.stdout)}")
-    return [line.removeprefix("seen ") for line in done.stdout.splitlines() if line.startswith("seen ")]
-
-
-class Compared:
-    def __init__(self):
-        self.bits, self.all_bits = 0, 0
+    seen = [line.removeprefix("seen ") for line in done.stdout.splitlines() if line.startswith("seen ")]
+    if len(seen) < len(rows):
+        raise Trouble(f"the simulation of {design.top} ended after {len(seen)} of {len(rows)} vectors")
+    return seen
 
 
 def spelled(ports, of_net):
     return " ".join(f"{p.name}={''.join(str(of_net[net]) for net in p.nets)}" for p in ports)
 
 
-def compare(language, top, paths, folder, flat, made, asked):
-    """How many bits of how many were compared. A difference is Trouble with its vector. Asked are the reset, vectors and seed."""
-    inputs, outputs = benches.ports_of(flat.inputs), benches.ports_of(flat.outputs)
-    given = [p for p in inputs if p.name != made.clock]
+class Comparison:
+    """A design and the runs of a source, with how many bits were compared of how many."""
+
+    def __init__(self, design, runs, keys):
+        self.design, self.runs, self.keys = design, runs, keys
+        self.nets = [net for p in design.outputs for net in p.nets]
+        self.bits, self.all_bits = 0, 0
+
+    def row(self, number, step, seen):
+        """One vector, under which the design shows these bits."""
+        clock = {self.keys(self.design.clock): 0} if self.design.clock else {}
+        env = self.runs.step({self.keys(net): one for net, one in step.items()} | clock)
+        shown = dict(zip(self.nets, seen))
+        settled = {net: {0: "0", ALL: "1"}.get(env[self.keys(net)], "x") for net in self.nets}
+        both = [net for net in self.nets if shown[net] in "01" and settled[net] != "x"]
+        if any(shown[net] != settled[net] for net in both):
+            told, outputs = spelled(self.design.given(), step), self.design.outputs
+            raise Trouble(f"vector {number}: {told}: the design shows {spelled(outputs, shown)}, the source {spelled(outputs, settled)}")
+        self.bits, self.all_bits = self.bits + len(both), self.all_bits + len(shown)
+
+
+def compare(design, folder, made, asked):
+    """The comparison, and the reset. A difference is Trouble with its vector. Asked are the reset, how many vectors, and the seed."""
     chance = random.Random(asked.seed)
-    reset = reset_of(asked.reset, given)
-    steps = list(vectors(given, reset, asked.vectors, chance, not asked.sync_reset))
-    rows = ["".join(str(step[net]) for p in given for net in p.nets) + "0" for step in steps]
-    seen = shown_by(language, top, paths, folder, (inputs, outputs), made.clock, rows)
-    if len(seen) < len(rows):
-        raise Trouble(f"the simulation of {top} ended after {len(seen)} of {len(rows)} vectors")
-    runs, compared = Runs(machine(made.text.encode()), chance), Compared()
-    nets = [net for p in outputs for net in p.nets]
-    for number, (step, shown) in enumerate(zip(steps, seen)):
-        env = runs.step({made.ports.key(net): one for net, one in step.items()} | ({(made.ports.key(made.clock)): 0} if made.clock else {}))
-        check_row(number, step, dict(zip(nets, shown)), {net: env[made.ports.key(net)] for net in nets}, compared, given, outputs)
+    reset = reset_of(asked.reset, design.given())
+    steps = list(vectors(design.given(), reset, asked.vectors, chance, not asked.sync_reset))
+    rows = ["".join(str(step[net]) for p in design.given() for net in p.nets) + "0" for step in steps]
+    compared = Comparison(design, Runs(machine(made.text.encode()), chance), made.ports.key)
+    for number, (step, seen) in enumerate(zip(steps, shown_by(design, folder, rows))):
+        compared.row(number, step, seen)
     return compared, reset
-
-
-def check_row(number, step, shown, env, compared, given, outputs):
-    settled = {net: {0: "0", ALL: "1"}.get(bits, "x") for net, bits in env.items()}
-    compared.all_bits += len(shown)
-    both = [net for net in shown if shown[net] in "01" and settled[net] != "x"]
-    compared.bits += len(both)
-    if any(shown[net] != settled[net] for net in both):
-        raise Trouble(f"vector {number}: {spelled(given, step)}: the design shows {spelled(outputs, shown)}, the source {spelled(outputs, settled)}")

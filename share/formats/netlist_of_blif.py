@@ -156,7 +156,8 @@ class Linker:
             table = (self.constants[root],) if root in self.constants else (0, 1)
             model = first_with(self.models, table)
             if model is None:
-                raise Unfit(line, f"the output {net} needs a cell that " + ("copies a net" if len(table) > 1 else f"shows {table[0]}") + "; the library has none")
+                needed = "copies a net" if len(table) > 1 else f"shows {table[0]}"
+                raise Unfit(line, f"the output {net} needs a cell that {needed}; the library has none")
             nets = {model.outputs[0]: self.ports.key(net), **{pin: self.net(root) for pin in model.inputs}}
             self.add(labels.next_of("b" if model.inputs else "g"), model, nets)
 

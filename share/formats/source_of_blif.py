@@ -13,10 +13,11 @@ from .blif_reader import Unfit
 MOST_OPERATORS = 4096
 FILE, PORTS = 1048576, 4096
 LINE = 110
+NO_LATCHES = "here are registers alone, which load when the clock rises: give each signal a value in every case"
 KINDS = {
     "fe": "loads when its clock falls; here the clock's rise counts: write it so, or invert the clock outside",
-    "ah": "is a latch by level, open while its clock is 1; here are registers alone, which load when the clock rises: give each signal a value in every case",
-    "al": "is a latch by level, open while its clock is 0; here are registers alone, which load when the clock rises: give each signal a value in every case",
+    "ah": f"is a latch by level, open while its clock is 1; {NO_LATCHES}",
+    "al": f"is a latch by level, open while its clock is 0; {NO_LATCHES}",
     "as": "loads without a clock; here registers load when the clock rises",
     "": "has no clock: write `.latch DATA OUTPUT re CLOCK`",
 }
@@ -118,7 +119,8 @@ class Writer:
         flat = self.flat
         for instance in flat.instances:
             kind = "dff" if "DFF" in instance.cell.upper() else "other"
-            raise Unfit(instance.line, f"an instance of {instance.cell} is left in the netlist: {CELLS[kind]}; a netlist of cells needs the folder of their library")
+            told = f"an instance of {instance.cell} is left in the netlist: {CELLS[kind]}; a netlist of cells needs the folder of their library"
+            raise Unfit(instance.line, told)
         if len(flat.inputs) + len(flat.outputs) > PORTS:
             raise Unfit(flat.line, f"{len(flat.inputs) + len(flat.outputs)} bits of ports; a source has at most {PORTS}")
         self.drivers = wiring.drivers_of(flat.inputs, self.parts)
@@ -158,7 +160,8 @@ class Writer:
         for latch in self.flat.latches:
             found = self.source_of(latch.clock)
             if found not in self.flat.inputs:
-                raise Unfit(latch.line, f"the clock {latch.clock} of {latch.output} is no input; gated and divided clocks have no form: write an enable")
+                told = f"the clock {latch.clock} of {latch.output} is no input; gated and divided clocks have no form: write an enable"
+                raise Unfit(latch.line, told)
             if clock not in (None, found):
                 raise Unfit(latch.line, f"{latch.output} has the clock {found}, and other registers {clock}; there is one clock")
             clock = found
@@ -345,7 +348,8 @@ class Writer:
         head = f"entity {self.name} is\n  port (\n{self.entity()});\nend {self.name};\n\narchitecture imported of {self.name} is"
         text = "\n".join([head, *declared, "begin", *self.lines, *self.load_registers(), "end imported;", ""])
         if len(text) > FILE:
-            raise Unfit(self.flat.line, f"the source would have {len(text)} bytes; the tools read at most {FILE}: bring it in parts, or mapped to cells")
+            told = f"the source would have {len(text)} bytes; the tools read at most {FILE}: bring it in parts, or mapped to cells"
+            raise Unfit(self.flat.line, told)
         return Source(text, self.name, self.ports, self.registers, self.clock, self.renamed(), self.anonymous, len(self.lines))
 
 

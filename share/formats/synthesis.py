@@ -5,7 +5,6 @@ Registers become such as load always; their enables and synchronous resets are l
 """
 
 import itertools
-import pathlib
 import re
 import shutil
 import subprocess
@@ -32,6 +31,8 @@ module ripple (P, G, CI, CO);
   end endgenerate
 endmodule
 """
+# What may be left of registers: import says what is wrong with those that aren't plain.
+KEPT = " ".join(f"-cell $_{kind}_ 01" for kind in ("DFF_?", "DFF_???", "DFFSR_???", "ALDFF_??", "DLATCH_?", "DLATCH_???", "SR_??"))
 SCRIPT = """{reads}
 hierarchy -check -top {top}
 rename -hide w:{mark}*
@@ -57,7 +58,7 @@ techmap -map ripple.v
 techmap
 opt -fast
 {resets}
-dfflegalize -cell $_DFF_?_ 01 -cell $_DFF_???_ 01 -cell $_DFFSR_???_ 01 -cell $_ALDFF_??_ 01 -cell $_DLATCH_?_ 01 -cell $_DLATCH_???_ 01 -cell $_SR_??_ 01
+dfflegalize {kept}
 opt_expr -mux_undef
 opt_merge
 opt_clean
@@ -153,8 +154,9 @@ def verilog_of(top, paths, folder):
         copy.write_text(without_keywords(path.read_text(errors="replace")))
     for form in ("verilog", "vhdl"):
         done = ran(folder, "ghdl", "synth", "--std=08", f"--out={form}", *copies, "-e", top)
-        if done.returncode or not done.stdout.strip():
-            line = first_line(done.stderr)
+        unassigned = re.search(r"^.*is never assigned and has no default value$", done.stderr, re.M)
+        if done.returncode or not done.stdout.strip() or unassigned:
+            line = unassigned[0] if unassigned else first_line(done.stderr)
             copy = next((copy for copy in copies if line.startswith(f"{copy}:")), None)
             raise Trouble(f"ghdl: {line.replace(str(copy), str(copies[copy])) if copy else line}")
         made[form] = done.stdout
@@ -170,13 +172,14 @@ def cause_of(told):
     return found[1].replace("\\", "") if found else line
 
 
-def blif_of(top, paths, folder, sync_reset, without_initial):
-    """The text of the BLIF that yosys makes."""
+def blif_of(top, paths, folder, asked):
+    """The text of the BLIF that yosys makes. Asked is what becomes of asynchronous resets and initial values."""
     need("yosys")
     reads = "\n".join(f'read_verilog {"-sv " if path.suffix == ".sv" else ""}"{path.resolve()}"' for path in paths)
     (folder / "ripple.v").write_text(RIPPLE)
-    initial = "setattr -unset init w:*" if without_initial else ""
-    (folder / "script.ys").write_text(SCRIPT.format(reads=reads, top=top, mark=MARK, initial=initial, resets="\n".join(SYNCHRONOUS) if sync_reset else ""))
+    initial = "setattr -unset init w:*" if asked.without_initial else ""
+    resets = "\n".join(SYNCHRONOUS) if asked.sync_reset else ""
+    (folder / "script.ys").write_text(SCRIPT.format(reads=reads, kept=KEPT, top=top, mark=MARK, initial=initial, resets=resets))
     done = ran(folder, "yosys", "-q", "-s", "script.ys")
     made = folder / "netlist.blif"
     if done.returncode or not made.exists():
@@ -184,11 +187,12 @@ def blif_of(top, paths, folder, sync_reset, without_initial):
     return made.read_text().replace(ENDING, "")
 
 
-def netlist_of(top, paths, folder, sync_reset, without_initial):
+def netlist_of(top, paths, folder, asked):
     """The BLIF of a design, and its language."""
     language = language_of(paths)
     for path in paths:
         if not path.is_file():
             raise Trouble(f"{path}: No such file or directory")
-    verilog = [verilog_of(top.lower(), paths, folder)] if language == "vhdl" else paths
-    return blif_of(top.lower() if language == "vhdl" else top, verilog, pathlib.Path(folder), sync_reset, without_initial), language
+    if language == "vhdl":
+        top, paths = top.lower(), [verilog_of(top.lower(), paths, folder)]
+    return blif_of(top, paths, folder, asked), language
