@@ -1,4 +1,5 @@
 // Nodes, and why there is none.
+use thiserror::Error;
 
 /// A node of some `Diagrams`. It stays one for as long as they last.
 #[derive(Clone, Copy, PartialEq, Eq, Hash)]
@@ -15,11 +16,13 @@ pub struct Branch {
 }
 
 /// Why there is no node.
-#[derive(Clone, Copy, Drop)]
+#[derive(Clone, Copy, Debug, Drop, Error)]
 pub enum BddError {
     /// More truth lists than the budget.
+    #[error("more nodes than the budget")]
     Budget,
     /// No memory.
+    #[error("out of memory")]
     Memory,
 }
 
