@@ -9,11 +9,13 @@ Each cell is `Cell(name, columns, pins, function, drive, times)`. A pin stands a
 resistances in ohm, capacitances in fF; they are numbers of this project and of no process.
 """
 
+import csv
 import pathlib
 import sys
 from typing import NamedTuple
 
 FOLDER = pathlib.Path(__file__).resolve().parent.parent / "cells"
+NUMBERS = pathlib.Path(__file__).resolve().parent / "cell_numbers.csv"
 COLUMN, HEIGHT, FOOT, HEAD, WIRE, RAIL = 500, 5000, 1000, 4000, 200, 600
 RAILS = (("vss", 300), ("vdd", 4700))
 CLOCK, REGISTER = "ck", "ff"
@@ -132,21 +134,22 @@ def layout(cell):
     return "\n".join(lines + ["EOF", ""])
 
 
-def generics(cell):
+def numbers():
+    """For each cell the numbers of its arcs, as (pin, quantity, value) in the order of the file."""
+    with open(NUMBERS, newline="") as file:
+        rows = [(row["cell"], row["pin"], row["quantity"], int(row["value"])) for row in csv.DictReader(file)]
+    return {cell: [row[1:] for row in rows if row[0] == cell] for cell in {row[0] for row in rows}}
+
+
+def generics(cell, measured):
     """Names with their numbers: capacitances of the inputs, then for each arc its times and resistances."""
-    made = [(f"cin_{pin}", cell.drive.cin) for pin in cell.inputs()]
-    for arc in cell.arcs:
-        ends = f"{arc.pin}_{cell.output()}"
-        made += [(f"{word}_{ends}", arc.falling) for word in FALLING[arc.sense]]
-        made += [(f"rdown_{ends}", cell.drive.down)]
-        made += [(f"{word}_{ends}", arc.rising) for word in RISING[arc.sense]]
-        made += [(f"rup_{ends}", cell.drive.up)]
-    return made
+    ends = {"cin": ""}
+    return [(f"{quantity}_{pin}{ends.get(quantity, '_' + cell.output())}", value) for pin, quantity, value in measured.get(cell.name, [])]
 
 
-def entity(cell):
+def entity(cell, measured):
     lines = [f"entity {cell.name} is"]
-    constants = [f"    constant {name} : natural := {number}" for name, number in generics(cell)]
+    constants = [f"    constant {name} : natural := {number}" for name, number in generics(cell, measured)]
     if constants:
         lines += ["  generic (", ";\n".join(constants), "  );"]
     ports = [f"    {pin} : in bit" for pin in cell.inputs()] + [f"    {cell.output()} : out bit"]
@@ -164,15 +167,15 @@ def architecture(cell):
     return lines + [f"  {cell.output()} <= {cell.function};", "end vbe;", ""]
 
 
-def behaviour(cell):
-    return "\n".join(entity(cell) + architecture(cell))
+def behaviour(cell, measured):
+    return "\n".join(entity(cell, measured) + architecture(cell))
 
 
 def library():
     """Each file of the library by its name."""
-    files = {"CATAL": "".join(f"{cell.name} C\n" for cell in CELLS)}
+    files, measured = {"CATAL": "".join(f"{cell.name} C\n" for cell in CELLS)}, numbers()
     for cell in CELLS:
-        files[f"{cell.name}.vbe"] = behaviour(cell)
+        files[f"{cell.name}.vbe"] = behaviour(cell, measured)
         files[f"{cell.name}.ap"] = layout(cell)
     return files
 
