@@ -2,7 +2,7 @@
 
 from .geometry import contacts, meets, notches, runs, square
 from .measures import (
-    COLUMN, DIFFUSION, FIRST_NODE, HEIGHT, LAST_NODE, METAL, METAL_HALF, METAL_SPACE, PAD_HALF, POLY_HALF, POLY_SPACE, RAIL, RAIL_CONTACT, RAIL_MIDDLE,
+    COLUMN, DIFFUSION, FIRST_NODE, HEIGHT, LAST_NODE, METAL, METAL_HALF, METAL_SPACE, PAD_HALF, POLY_CONTACT_SPACE, POLY_HALF, RAIL, RAIL_CONTACT, RAIL_MIDDLE,
     TIE_CONTACT, TIE_DEPTH, UNIT, WELL, WELL_BEYOND,
 )
 from .placement import SIGNAL_HIGH, SIGNAL_LOW
@@ -15,7 +15,7 @@ class Drawing:
     def __init__(self, name, placement, router):
         self.name, self.placement, self.nets = name, placement, router.nets
         self.metal, self.poly = self.boxes()
-        self.fills = {layer: fills(boxes, space) for layer, boxes, space in (("ALU1", self.metal, METAL_SPACE), ("POLY", self.poly, POLY_SPACE))}
+        self.fills = {layer: fills(boxes, space) for layer, boxes, space in (("ALU1", self.metal, METAL_SPACE), ("POLY", self.poly, POLY_CONTACT_SPACE))}
         self.pins, self.wires = {}, {}
         for pin in sorted(placement.pins):
             self.lengthen(pin)

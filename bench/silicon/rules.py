@@ -208,7 +208,13 @@ def cuts(cell, masks):
 
 
 def pads(pad, poly):
-    """The poly around a cut and other poly that isn't joined to it nearby."""
+    """The poly around a cut and other poly: across each open edge of it, and what isn't joined to it nearby."""
+    left, low, right, high = pad
+    edges = [(x, y, dx, 0) for y in range(low, high) for x, dx in ((left - 1, -1), (right, 1))]
+    edges += [(x, y, 0, dy) for x in range(left, right) for y, dy in ((low - 1, -1), (high, 1))]
+    faces = [(x, y) for x, y, dx, dy in edges if any((x + k * dx, y + k * dy) in poly.points for k in range(PAD_FROM_POLY)) and (x, y) not in poly.points]
+    if faces:
+        yield f"poly nearer than {PAD_FROM_POLY} to that of the contact {at(pad)}, beyond {at(faces[0])}"
     [own] = [group for group in poly.parts() if any(overlaps(pad, box) for box in group)]
     for box in poly.boxes:
         if distance(pad, box) < PAD_FROM_POLY and box not in own:
