@@ -42,7 +42,7 @@ def wrong_of_flip_flop(behaviour, transistors):
 
 def output_of(behaviour, values):
     [(name, _)] = behaviour.outputs()
-    return values[name]
+    return values.get(name, UNKNOWN)
 
 
 def meant(behaviour, inputs):
