@@ -1,6 +1,7 @@
 """What lies below metal 1 of the row library: bench/cell_rules.py finds no fault in it, and finds each of these in a cell that is spoiled; and where
 Magic and Netgen are installed, bench/silicon.sh says that a counter keeps a process's rules and has the transistors of its netlist."""
 
+import os
 import re
 import subprocess
 
@@ -50,7 +51,7 @@ def check_counter(results, program):
         results.skip(f"real layouts: not installed: {', '.join(gone)}")
         return
     words = [BENCH / "silicon.sh", program, EXAMPLES / "counter/cnt4.vbe"]
-    kinds = {"PROCESSES": PROCESS.table, "KINDS": "blocks", "PATH": "/usr/local/bin:/usr/bin:/bin"}
+    kinds = {**os.environ, "PROCESSES": PROCESS.table, "KINDS": "blocks"}
     done = subprocess.run(words, env=kinds, stdout=subprocess.PIPE, stderr=subprocess.STDOUT, text=True, timeout=SECONDS)
     rows = re.findall(r"^cnt4 .* (\d+) of \1 \[0, 0\] equal", done.stdout, re.MULTILINE)
     results.note("the counter's real layouts", done.returncode == 0 and len(rows) == 3 and all(int(row) > 0 for row in rows), done.stdout)

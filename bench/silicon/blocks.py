@@ -15,18 +15,20 @@ TRACKS = "--tracks"
 
 
 class Block(NamedTuple):
-    """A line of what was found. `errors` has a number for each reading style."""
+    """A line of what was found: transistors, how many they should be, what Magic says in each reading style, and so on."""
 
     transistors: int
     wanted: int
-    errors: list
-    reasons: list
+    looks: list
     is_equal: bool
     compared: int
     wrong: int
 
+    def errors(self):
+        return [look.errors for look in self.looks]
+
     def is_right(self):
-        return self.transistors == self.wanted > 0 and not any(self.errors) and self.is_equal and self.wrong == 0
+        return self.transistors == self.wanted > 0 and not any(self.errors()) and self.is_equal and self.wrong == 0
 
 
 def routes(process):
@@ -59,14 +61,14 @@ def looked_at(program, process, source, route, cells, models, folder):
     program.netlist(folder / f"{name}.ap", folder / name)
     netlist = files.netlist(folder / f"{name}.vst", models)
     program.real(folder / f"{name}.ap", process, folder / netlist.name)
-    looks = [field_tools.magic(process, style, folder, [netlist.name], k == 0)[netlist.name] for k, style in enumerate(process.styles)]
+    looks = field_tools.looks(process, folder, netlist.name)
     devices = looks[0].transistors or []
     wanted, ports = reference(netlist, cells)
     is_equal = bool(devices) and field_tools.are_equal(folder, netlist.name, field_tools.subcircuit(netlist.name, ports, devices), wanted)
     machine = files.source(source) if source.suffix == ".vbe" and len(devices) <= SMALL else None
     compared, wrong = simulated(machine, devices) if machine and devices else (0, 0)
     count = sum(len(cells[i.model.name].devices) for i in netlist.instances)
-    return Block(len(devices), count, [look.errors for look in looks], [r for look in looks for r in look.reasons], is_equal, compared, wrong)
+    return Block(len(devices), count, looks, is_equal, compared, wrong)
 
 
 # ---- at switch level

@@ -51,14 +51,11 @@ def technology(process):
 
 
 SCRIPT = """drc off
-cif istyle {%s}
-drc euclidean on
-%s
-quit -noprompt
-"""
-ONE = """cif read %(cif)s
+cif istyle {%(style)s}
+cif read %(top)s
 load %(top)s
 select top cell
+drc euclidean on
 drc on
 drc check
 drc catchup
@@ -72,21 +69,22 @@ ext2spice -o %(top)s.spice
 """
 
 
-def magic(process, style, folder, tops, extracting):
-    """What Magic finds in FOLDER/TOP.cif for each of the tops, by their names; with the transistors where it is asked to extract them."""
-    one = ONE + (EXTRACTED if extracting else "")
-    parts = "".join(one % {"cif": top, "top": top} for top in tops)
+def magic(process, style, folder, top, extracting):
+    """What Magic finds in FOLDER/TOP.cif; with the transistors where it is asked to extract them. Each layout has a run of its own."""
     work = folder / "magic"
     shutil.rmtree(work, ignore_errors=True)
     work.mkdir()
-    for top in tops:
-        shutil.copy(folder / f"{top}.cif", work)
-    (work / "run.tcl").write_text(SCRIPT % (style, parts))
+    shutil.copy(folder / f"{top}.cif", work)
+    (work / "run.tcl").write_text((SCRIPT + (EXTRACTED if extracting else "") + "quit -noprompt\n") % {"style": style, "top": top})
     words = [MAGIC, "-dnull", "-noconsole", "-rcfile", "/dev/null", "-T", technology(process), "run.tcl"]
     with open(work / "log", "w") as log:
         subprocess.run(words, cwd=work, stdin=subprocess.DEVNULL, stdout=log, stderr=subprocess.STDOUT, timeout=60 * MINUTES)
-    said = (work / "log").read_text()
-    return {top: looked(said, top, work / f"{top}.spice" if extracting else None) for top in tops}
+    return looked((work / "log").read_text(), top, work / f"{top}.spice" if extracting else None)
+
+
+def looks(process, folder, top):
+    """What Magic finds in each style of the process; the transistors in the first."""
+    return [magic(process, style, folder, top, number == 0) for number, style in enumerate(process.styles)]
 
 
 def looked(said, top, spice):

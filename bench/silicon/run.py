@@ -51,21 +51,21 @@ class Look:
         folder = self.folder(process, "cells")
         for name in self.library:
             self.program.real(self.program.library / f"{name}.ap", process, folder / name)
-        looks = [field_tools.magic(process, style, folder, list(self.library), k == 0) for k, style in enumerate(process.styles)]
         print(f"{process.table}: cells    transistors    errors by style    equal    compared, wrong")
         for name, cell in self.library.items():
-            devices, wanted = looks[0][name].transistors or [], self.cells[name]
-            errors = [look[name].errors for look in looks]
+            looks, wanted = field_tools.looks(process, folder, name), self.cells[name]
+            devices, errors = looks[0].transistors or [], [look.errors for look in looks]
             is_equal = bool(devices) and field_tools.are_equal(folder, name, field_tools.subcircuit(name, wanted.ports, devices), wanted.text)
             compared, wrong = functions.wrong(cell.behaviour, devices) if devices else (0, 0)
             is_right = len(devices) == len(wanted.devices) > 0 and not any(errors) and is_equal and compared > 0 == wrong
             self.say(is_right, f"{name:12} {len(devices):4} {str(errors):12} {'equal' if is_equal else 'differ'} {compared:5} {wrong}")
-            self.reasons(looks, name)
+            self.tell(looks)
 
-    def reasons(self, looks, name):
+    @staticmethod
+    def tell(looks):
         for look in looks:
-            for reason in look[name].reasons:
-                print(f"             {reason}")
+            for reason in look.reasons:
+                print(f"             {reason}", flush=True)
 
     # ---- rows
 
@@ -75,14 +75,13 @@ class Look:
         for name, *how in rows.TRIES:
             (folder / f"{name}.ap").write_text(rows.layout(name, widths, *how))
             self.program.real(folder / f"{name}.ap", process, folder / name)
-        names = [name for name, *_ in rows.TRIES]
-        looks = [field_tools.magic(process, style, folder, names, k == 0) for k, style in enumerate(process.styles)]
         one_row = sum(len(self.cells[name].devices) for name in self.library)
         print(f"{process.table}: rows    transistors    errors by style")
         for name, count, *_ in rows.TRIES:
-            devices, errors = looks[0][name].transistors or [], [look[name].errors for look in looks]
+            looks = field_tools.looks(process, folder, name)
+            devices, errors = looks[0].transistors or [], [look.errors for look in looks]
             self.say(len(devices) == count * one_row and not any(errors), f"{name:12} {len(devices):5} {errors}")
-            self.reasons(looks, name)
+            self.tell(looks)
 
     # ---- blocks
 
@@ -101,9 +100,8 @@ class Look:
             self.say(is_of_flow, f"{title} {refused}")
             return
         told = "equal" if block.is_equal else "differ"
-        self.say(block.is_right(), f"{title} {block.transistors:6} of {block.wanted} {block.errors} {told} {block.compared} {block.wrong}")
-        for reason in block.reasons:
-            print(f"             {reason}")
+        self.say(block.is_right(), f"{title} {block.transistors:6} of {block.wanted} {block.errors()} {told} {block.compared} {block.wrong}")
+        self.tell(block.looks)
 
     def folder(self, process, kind):
         made = self.work / process.table / kind
