@@ -2,7 +2,9 @@
 # Looks at real layouts with tools that others made: the rules of MOSIS processes by Magic, in two reading styles, and by Netgen whether the
 # transistors that Magic extracts are those of the netlist. The layouts are what `s2r` makes by the tables of examples/real.
 #
-# Usage: bench/silicon.sh PROGRAM [SOURCE..]      (the sources are the examples, circuits as courses have them and an ALU of 16 bits where none is said)
+# Usage: bench/silicon.sh PROGRAM [SOURCE..]
+#
+# The sources are the examples, circuits as courses have them and an ALU of 16 bits where none is said.
 #
 # PROCESSES in the environment is another list than scn6m_subm,scn4m_subm,scn3me_subm; KINDS another than cells,rows,blocks; LIBRARY another
 # folder of cells than cells/, with cells of the same names.

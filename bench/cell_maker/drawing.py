@@ -2,8 +2,8 @@
 
 from .geometry import contacts, meets, notches, runs, square
 from .measures import (
-    COLUMN, DIFFUSION, FIRST_NODE, HEIGHT, LAST_NODE, METAL, METAL_HALF, METAL_SPACE, PAD_HALF, POLY_CONTACT_SPACE, POLY_HALF, RAIL, RAIL_CONTACT, RAIL_MIDDLE,
-    TIE_CONTACT, TIE_DEPTH, UNIT, WELL, WELL_BEYOND,
+    COLUMN, DIFFUSION, FIRST_NODE, HEIGHT, LAST_NODE, METAL, METAL_HALF, METAL_SPACE, PAD_HALF, POLY_CONTACT_SPACE, POLY_HALF, RAIL, RAIL_CONTACT,
+    RAIL_MIDDLE, TIE_CONTACT, TIE_DEPTH, UNIT, WELL, WELL_BEYOND,
 )
 from .placement import SIGNAL_HIGH, SIGNAL_LOW
 from .routing import bar_nodes, is_off
@@ -15,7 +15,7 @@ class Drawing:
     def __init__(self, name, placement, router):
         self.name, self.placement, self.nets = name, placement, router.nets
         self.metal, self.poly = self.boxes()
-        self.fills = {layer: fills(boxes, space) for layer, boxes, space in (("ALU1", self.metal, METAL_SPACE), ("POLY", self.poly, POLY_CONTACT_SPACE))}
+        self.fills = {"ALU1": fills(self.metal, METAL_SPACE), "POLY": fills(self.poly, POLY_CONTACT_SPACE)}
         self.pins, self.wires = {}, {}
         for pin in sorted(placement.pins):
             self.lengthen(pin)
@@ -74,12 +74,12 @@ class Drawing:
 
     def connectors(self):
         for net, y in RAIL_MIDDLE.items():
-            yield level(0, self.placement.width, y, RAIL, "CALU1", net)
+            yield level((0, self.placement.width), y, RAIL, "CALU1", net)
         for pin, (x, low, high) in self.pins.items():
-            yield upright(x, low, high, 2 * METAL_HALF, "CALU1", pin)
+            yield upright(x, (low, high), 2 * METAL_HALF, "CALU1", pin)
         for pin, (x, low, high) in self.wires.items():
             if self.pins[pin] != (x, low, high):
-                yield upright(x, low, high, 2 * METAL_HALF, "ALU1")
+                yield upright(x, (low, high), 2 * METAL_HALF, "ALU1")
 
     def wells_and_ties(self):
         width = self.placement.width
@@ -95,16 +95,16 @@ class Drawing:
         for diffusion in self.placement.diffusions:
             yield box_level(diffusion.box(), f"{diffusion.kind.upper()}DIF")
         for transistor in self.placement.transistors:
-            yield upright(transistor.x, *DIFFUSION[transistor.kind], 2 * POLY_HALF, f"{transistor.kind.upper()}TRANS")
+            yield upright(transistor.x, DIFFUSION[transistor.kind], 2 * POLY_HALF, f"{transistor.kind.upper()}TRANS")
         for x, n_gate, p_gate in zip(self.placement.x, self.placement.rows["n"].gates, self.placement.rows["p"].gates):
             if n_gate == p_gate:
-                yield upright(x, DIFFUSION["n"][1], DIFFUSION["p"][0], 2 * POLY_HALF, "POLY")
+                yield upright(x, (DIFFUSION["n"][1], DIFFUSION["p"][0]), 2 * POLY_HALF, "POLY")
 
     def rails(self):
         for kind, x in self.placement.rail_contacts:
             yield contact(x, RAIL_CONTACT[kind], f"CONT_DIF_{kind.upper()}")
         for net, x, y in self.placement.rail_straps():
-            yield upright(x, *sorted((RAIL_MIDDLE[net], y)), 2 * METAL_HALF, "ALU1")
+            yield upright(x, sorted((RAIL_MIDDLE[net], y)), 2 * METAL_HALF, "ALU1")
 
     def routes(self):
         for net in self.nets.values():
@@ -118,7 +118,7 @@ class Drawing:
                 if kind in "np":
                     yield contact(x, y, f"CONT_DIF_{kind.upper()}")
                 if kind == "rail":
-                    yield upright(x, *sorted((RAIL_MIDDLE[net.name], y)), 2 * METAL_HALF, "ALU1")
+                    yield upright(x, sorted((RAIL_MIDDLE[net.name], y)), 2 * METAL_HALF, "ALU1")
 
     def filled(self):
         for layer, boxes in self.fills.items():
@@ -138,24 +138,24 @@ def touches(one, other):
 # ---- lines of an ap file
 
 
-def segment(x1, y1, x2, y2, width, name, way, layer):
-    return f"S {x1:g},{y1:g},{x2:g},{y2:g},{width:g},{name},{way},{layer}"
+def segment(numbers, name, way, layer):
+    return f"S {','.join(f'{number * UNIT:g}' for number in numbers)},{name},{way},{layer}"
 
 
-def level(left, right, y, width, layer, name="*"):
-    return segment(left * UNIT, y * UNIT, right * UNIT, y * UNIT, width * UNIT, name, "RIGHT", layer)
+def level(ends, y, width, layer, name="*"):
+    return segment((ends[0], y, ends[1], y, width), name, "RIGHT", layer)
 
 
-def upright(x, low, high, width, layer, name="*"):
-    return segment(x * UNIT, low * UNIT, x * UNIT, high * UNIT, width * UNIT, name, "UP", layer)
+def upright(x, ends, width, layer, name="*"):
+    return segment((x, ends[0], x, ends[1], width), name, "UP", layer)
 
 
 def box_level(box, layer):
-    return level(box[0], box[2], (box[1] + box[3]) / 2, box[3] - box[1], layer)
+    return level((box[0], box[2]), (box[1] + box[3]) / 2, box[3] - box[1], layer)
 
 
 def box_upright(box, layer):
-    return upright((box[0] + box[2]) / 2, box[1], box[3], box[2] - box[0], layer)
+    return upright((box[0] + box[2]) / 2, (box[1], box[3]), box[2] - box[0], layer)
 
 
 def contact(x, y, word):
@@ -166,4 +166,4 @@ def wire(layer, box):
     """A run of a path: its line ends half its width before the box does."""
     half, word = (METAL_HALF, "ALU1") if layer == METAL else (POLY_HALF, "POLY")
     left, low, right, high = box[0] + half, box[1] + half, box[2] - half, box[3] - half
-    return level(left, right, low, 2 * half, word) if right > left else upright(left, low, high, 2 * half, word)
+    return level((left, right), low, 2 * half, word) if right > left else upright(left, (low, high), 2 * half, word)

@@ -2,9 +2,9 @@
 
 from itertools import pairwise
 
-from .measures import METAL, METAL_HALF, PAD_HALF, POLY_HALF
+from .measures import METAL, METAL_HALF, POLY, POLY_HALF
 
-HALF = {0: POLY_HALF, METAL: METAL_HALF}
+HALF = {POLY: POLY_HALF, METAL: METAL_HALF}
 
 
 def square(x, y, half):

@@ -5,7 +5,8 @@ from typing import NamedTuple
 
 CLOSED = 1_000_000
 POLY_STEP, METAL_STEP, CONTACT, BEND = 5, 2, 40, 6
-FINAL = 2  # a state's bits: the layer, and whether the path ends there
+STATES = 4  # of a point: its two layers, and for each whether the path ends there
+FINAL = 2
 FAR = 1 << 60
 
 
@@ -29,68 +30,76 @@ def least_path(width, costs, sources, targets):
 
     The grid has `width` points in a row. Its rim is closed, so no step leaves it.
     """
-    ends = {state(width, place): cost for place, cost in targets.items() if cost < CLOSED}
-    if not ends:
-        return None
-    box = Box(*(f(place[k] for place in targets) for f, k in ((min, 1), (min, 2), (max, 1), (max, 2))))
-    size = 4 * len(costs.poly)
-    distance, before, turns = [FAR] * size, [-1] * size, bytearray(size)
-    heap = []
-    for place in sorted(sources):
-        start = state(width, place)
-        distance[start] = 0
-        heappush(heap, (rest(box, place[1], place[2]), start))
-    steps = ((1, 1), (-1, 1), (width, 2), (-width, 2))
-    done = bytearray(size)
-    while heap:
-        _, now = heappop(heap)
-        if done[now]:
-            continue
-        done[now] = 1
-        if now & FINAL:
-            return walked(width, before, now)
-        so_far = distance[now]
-        if now in ends and so_far + ends[now] < distance[now | FINAL]:
-            distance[now | FINAL], before[now | FINAL] = so_far + ends[now], now
-            heappush(heap, (so_far + ends[now], now | FINAL))
-        at, layer = now >> 2, now & 1
-        here, step_cost = (costs.metal, METAL_STEP) if layer else (costs.poly, POLY_STEP)
-        turn = turns[now]
-        for move, axis in steps:
-            then = at + move
-            if here[then] >= CLOSED:
+    return Search(width, costs, targets).path_from(sources)
+
+
+class Search:
+    """States with their distances so far. A state is a point, its layer, and whether the path ends there."""
+
+    def __init__(self, width, costs, targets):
+        self.width, self.costs = width, costs
+        self.steps = ((1, 1), (-1, 1), (width, 2), (-width, 2))  # with their axes
+        self.ends = {state(width, place): cost for place, cost in targets.items() if cost < CLOSED}
+        self.box = Box(*(f(place[k] for place in targets) for f, k in ((min, 1), (min, 2), (max, 1), (max, 2))))
+        size = STATES * len(costs.poly)
+        self.distance, self.before, self.turns, self.done = [FAR] * size, [-1] * size, bytearray(size), bytearray(size)
+        self.heap = []
+
+    def path_from(self, sources):
+        if not self.ends:
+            return None
+        for place in sorted(sources):
+            self.offer(state(self.width, place), 0, -1, 0)
+        while self.heap:
+            _, now = heappop(self.heap)
+            if self.done[now]:
                 continue
-            cost = so_far + step_cost + here[then] + (BEND if turn and turn != axis else 0)
-            following = then << 2 | layer
-            if cost < distance[following]:
-                distance[following], before[following], turns[following] = cost, now, axis
-                heappush(heap, (cost + rest(box, then % width, then // width), following))
-        other = costs.poly if layer else costs.metal
-        if costs.contact[at] < CLOSED and other[at] < CLOSED:
-            cost = so_far + CONTACT + costs.contact[at] + other[at]
-            following = now ^ 1
-            if cost < distance[following]:
-                distance[following], before[following], turns[following] = cost, now, 0
-                heappush(heap, (cost + rest(box, at % width, at // width), following))
-    return None
+            self.done[now] = 1
+            if now & FINAL:
+                return self.walked(now)
+            if now in self.ends:
+                self.offer(now | FINAL, self.distance[now] + self.ends[now], now, 0)
+            self.step_on(now)
+            self.change_layer(now)
+        return None
 
+    def offer(self, following, cost, before, turn):
+        """A way to a state, if it is shorter than those before."""
+        if cost < self.distance[following]:
+            self.distance[following], self.before[following], self.turns[following] = cost, before, turn
+            rest = 0 if following & FINAL else self.rest(following // STATES)
+            heappush(self.heap, (cost + rest, following))
 
-def rest(box, x, y):
-    """No path from x, y to the box of the targets is cheaper than this."""
-    dx = box.left - x if x < box.left else x - box.right if x > box.right else 0
-    dy = box.low - y if y < box.low else y - box.high if y > box.high else 0
-    return METAL_STEP * (dx + dy)
+    def rest(self, at):
+        """No path from the point to the box of the targets is cheaper than this."""
+        box, (y, x) = self.box, divmod(at, self.width)
+        dx = box.left - x if x < box.left else x - box.right if x > box.right else 0
+        dy = box.low - y if y < box.low else y - box.high if y > box.high else 0
+        return METAL_STEP * (dx + dy)
+
+    def step_on(self, now):
+        at, layer, turn = now // STATES, now & 1, self.turns[now]
+        cost_here, step_cost = (self.costs.metal, METAL_STEP) if layer else (self.costs.poly, POLY_STEP)
+        for move, axis in self.steps:
+            more = cost_here[at + move]
+            if more < CLOSED:
+                cost = self.distance[now] + step_cost + more + (BEND if turn not in (0, axis) else 0)
+                self.offer((at + move) * STATES | layer, cost, now, axis)
+
+    def change_layer(self, now):
+        at, other = now // STATES, self.costs.poly if now & 1 else self.costs.metal
+        if self.costs.contact[at] < CLOSED and other[at] < CLOSED:
+            self.offer(now ^ 1, self.distance[now] + CONTACT + self.costs.contact[at] + other[at], now, 0)
+
+    def walked(self, last):
+        path, now = [], self.before[last]
+        while now >= 0:
+            at = now // STATES
+            path.append((now & 1, at % self.width, at // self.width))
+            now = self.before[now]
+        return path[::-1]
 
 
 def state(width, place):
     layer, x, y = place
-    return (y * width + x) << 2 | layer
-
-
-def walked(width, before, last):
-    path = []
-    now = before[last]
-    while now >= 0:
-        path.append((now & 1, (now >> 2) % width, (now >> 2) // width))
-        now = before[now]
-    return path[::-1]
+    return (y * width + x) * STATES | layer

@@ -1,17 +1,28 @@
 """Blocks that `flow` lays out: their rules, and whether their transistors are those of the netlist, and do at switch level what the source says."""
 
 import random
+from pathlib import Path
 from typing import NamedTuple
 
 from share.formats import files
 from share.formats.vhdl_reader import SUPPLIES
 
 from . import field_tools
-from .program import Refused
+from .program import Program
 from .switch_level import UNKNOWN, Circuit
 
 VECTORS, SMALL = 64, 1200  # inputs that are tried, of blocks with no more transistors than that
 TRACKS = "--tracks"
+
+
+class Bench(NamedTuple):
+    """What a block is looked at with: the program, the process, the meant transistors and the models of the cells, and a folder."""
+
+    program: Program
+    process: field_tools.Process
+    cells: dict
+    models: dict
+    folder: Path
 
 
 class Block(NamedTuple):
@@ -54,20 +65,20 @@ def reference(netlist, cells):
     return "\n".join(texts + lines + [".ends", ""]), ports
 
 
-def looked_at(program, process, source, route, cells, models, folder):
+def looked_at(bench, source, route):
     """The Block, or Refused by a tool."""
-    name = f"{source.stem}_{'_'.join(word.strip('-') for word in route)}"
-    program.flow(source, folder / name, *route)
-    program.netlist(folder / f"{name}.ap", folder / name)
-    netlist = files.netlist(folder / f"{name}.vst", models)
-    program.real(folder / f"{name}.ap", process, folder / netlist.name)
-    looks = field_tools.looks(process, folder, netlist.name)
+    name, folder = f"{source.stem}_{'_'.join(word.strip('-') for word in route)}", bench.folder
+    bench.program.flow(source, folder / name, *route)
+    bench.program.netlist(folder / f"{name}.ap", folder / name)
+    netlist = files.netlist(folder / f"{name}.vst", bench.models)
+    bench.program.real(folder / f"{name}.ap", bench.process, folder / netlist.name)
+    looks = field_tools.looks(bench.process, folder, netlist.name)
     devices = looks[0].transistors or []
-    wanted, ports = reference(netlist, cells)
+    wanted, ports = reference(netlist, bench.cells)
     is_equal = bool(devices) and field_tools.are_equal(folder, netlist.name, field_tools.subcircuit(netlist.name, ports, devices), wanted)
     machine = files.source(source) if source.suffix == ".vbe" and len(devices) <= SMALL else None
     compared, wrong = simulated(machine, devices) if machine and devices else (0, 0)
-    count = sum(len(cells[i.model.name].devices) for i in netlist.instances)
+    count = sum(len(bench.cells[i.model.name].devices) for i in netlist.instances)
     return Block(len(devices), count, looks, is_equal, compared, wrong)
 
 

@@ -212,7 +212,8 @@ def pads(pad, poly):
     left, low, right, high = pad
     edges = [(x, y, dx, 0) for y in range(low, high) for x, dx in ((left - 1, -1), (right, 1))]
     edges += [(x, y, 0, dy) for x in range(left, right) for y, dy in ((low - 1, -1), (high, 1))]
-    faces = [(x, y) for x, y, dx, dy in edges if any((x + k * dx, y + k * dy) in poly.points for k in range(PAD_FROM_POLY)) and (x, y) not in poly.points]
+    open_edges = [edge for edge in edges if edge[:2] not in poly.points]
+    faces = [(x, y) for x, y, dx, dy in open_edges if any((x + k * dx, y + k * dy) in poly.points for k in range(PAD_FROM_POLY))]
     if faces:
         yield f"poly nearer than {PAD_FROM_POLY} to that of the contact {at(pad)}, beyond {at(faces[0])}"
     [own] = [group for group in poly.parts() if any(overlaps(pad, box) for box in group)]

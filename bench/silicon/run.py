@@ -87,14 +87,15 @@ class Look:
 
     def look_at_blocks(self, process, sources, models):
         print(f"{process.table}: blocks    route    transistors    errors by style    equal    compared, wrong")
+        bench = blocks.Bench(self.program, process, self.cells, models, self.folder(process, "blocks"))
         for source in sources:
             for route in blocks.routes(process):
-                self.look_at_block(process, source, route, models)
+                self.look_at_block(bench, source, route)
 
-    def look_at_block(self, process, source, route, models):
+    def look_at_block(self, bench, source, route):
         title = f"{source.stem:12} {' '.join(route):12}"
         try:
-            block = blocks.looked_at(self.program, process, source, route, self.cells, models, self.folder(process, "blocks"))
+            block = blocks.looked_at(bench, source, route)
         except Refused as refused:
             is_of_flow = str(refused).startswith("flow: ")
             self.say(is_of_flow, f"{title} {refused}")

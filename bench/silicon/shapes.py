@@ -1,4 +1,5 @@
-"""The real shapes of a cell below metal 2, in lambda, by the lines of its ap file: what the tables of examples/real say of these layers, written once more.
+"""The real shapes of a cell below metal 2, in lambda, by the lines of its ap file: what the tables of examples/real say of these layers, written
+once more.
 
 A box is (left, low, right, high). Two lambda are 100 of an ap file.
 """
@@ -8,7 +9,8 @@ from typing import NamedTuple
 from share.formats.ap import UPRIGHT
 
 UNIT = 50
-WELL, N_SELECT, P_SELECT, N_ACTIVE, P_ACTIVE, N_TIE, P_TIE, POLY, CUT, METAL = "well", "n select", "p select", "n active", "p active", "n tie", "p tie", "poly", "cut", "metal 1"
+WELL, N_SELECT, P_SELECT, POLY, CUT, METAL = "well", "n select", "p select", "poly", "cut", "metal 1"
+N_ACTIVE, P_ACTIVE, N_TIE, P_TIE = "n active", "p active", "n tie", "p tie"
 ACTIVE = (N_ACTIVE, P_ACTIVE, N_TIE, P_TIE)
 
 # What a segment is: layer, how much longer at its ends, how much wider at its sides.
