@@ -19,7 +19,7 @@ SIZES = {
     "a2_x2": Size(4, 2, 0),
     "na3_x1": Size(5, 2, 0),
     "na4_x1": Size(6, 2, 0),
-    "no2_x1": Size(4, 2, 0),
+    "no2_x1": Size(4, 2, 7),
     "no3_x1": Size(5, 2, 0),
     "nao22_x1": Size(5, 2, 0),
     "noa22_x1": Size(5, 2, 0),
