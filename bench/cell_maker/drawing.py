@@ -1,5 +1,7 @@
 """The ap file of a routed cell."""
 
+from itertools import combinations_with_replacement, product
+
 from .geometry import contacts, meets, notches, runs, square
 from .measures import (
     COLUMN, DIFFUSION, FIRST_NODE, HEIGHT, LAST_NODE, METAL, METAL_HALF, METAL_SPACE, PAD_HALF, POLY_CONTACT_SPACE, POLY_HALF, RAIL, RAIL_CONTACT,
@@ -7,6 +9,8 @@ from .measures import (
 )
 from .placement import SIGNAL_HIGH, SIGNAL_LOW
 from .routing import bar_nodes, is_off
+
+LEAST_NODES = 2
 
 
 class Drawing:
@@ -16,9 +20,8 @@ class Drawing:
         self.name, self.placement, self.nets = name, placement, router.nets
         self.metal, self.poly = self.boxes()
         self.fills = {"ALU1": fills(self.metal, METAL_SPACE), "POLY": fills(self.poly, POLY_CONTACT_SPACE)}
-        self.pins, self.wires = {}, {}
-        for pin in sorted(placement.pins):
-            self.lengthen(pin)
+        self.wires = {pin: self.lengthened(pin) for pin in sorted(placement.pins)}
+        self.pins = connectors_of({pin: self.clean_nodes(*bar) for pin, bar in self.wires.items()})
 
     def boxes(self):
         """Metal and poly of each net."""
@@ -36,24 +39,30 @@ class Drawing:
 
     # ---- pins
 
-    def lengthen(self, pin):
-        """The pin's bar, as long as the other metal lets it be; its connector is the longest part of it whose nodes no contact spoils."""
+    def lengthened(self, pin):
+        """The pin's bar (x, lowest y, highest y), as long as the other metal lets it be."""
         x, low, high = self.nets[pin].bar
         while low > FIRST_NODE and self.is_free(pin, (x - METAL_HALF, low - COLUMN - METAL_HALF, x + METAL_HALF, high)):
             low -= COLUMN
         while high < LAST_NODE and self.is_free(pin, (x - METAL_HALF, low, x + METAL_HALF, high + COLUMN + METAL_HALF)):
             high += COLUMN
+        self.metal[pin].append((x - METAL_HALF, low - METAL_HALF, x + METAL_HALF, high + METAL_HALF))
+        return x, low, high
+
+    def clean_nodes(self, x, low, high):
+        """The longest run of nodes of a bar that no contact spoils."""
         middles = {at for net in self.nets.values() for at in net.contacts()}
-        parts = [[]]
+        runs_of_nodes = [[]]
         for node in bar_nodes((x, low, high)):
             if any(is_off(node, middle) for middle in middles):
-                parts.append([])
+                runs_of_nodes.append([])
             else:
-                parts[-1].append(node[1])
-        nodes = max(parts, key=len)
-        self.pins[pin] = (x, nodes[0], nodes[-1])
-        self.wires[pin] = (x, low, high)
-        self.metal[pin].append((x - METAL_HALF, low - METAL_HALF, x + METAL_HALF, high + METAL_HALF))
+                runs_of_nodes[-1].append(node)
+        return max(runs_of_nodes, key=len)
+
+    def reached_rows(self):
+        """The y at which a layout reaches each pin, in the order of their ranks."""
+        return [reached(rank, [y for _, y in bar_nodes(self.pins[pin])]) for rank, pin in enumerate(sorted(self.pins))]
 
     def is_free(self, pin, box):
         """Whether metal there keeps its space from all other nets, and leaves no narrow gap to its own."""
@@ -124,6 +133,38 @@ class Drawing:
         for layer, boxes in self.fills.items():
             for _, box, axis in boxes:
                 yield box_level(box, layer) if axis == "x" else box_upright(box, layer)
+
+
+def connectors_of(nodes):
+    """Each pin's connector (x, lowest y, highest y), a part of its nodes.
+
+    What a layout reaches of it lies in a row of its own for as many pins as can be, so
+    that the wires to one pin leave room for those to the others; then the connectors are as long as can be.
+    """
+    choices = [parts_by_row(rank, nodes[pin]) for rank, pin in enumerate(sorted(nodes))]
+    best = max(product(*(sorted(choice.items()) for choice in choices)), key=lambda chosen: (len({row for row, _ in chosen}), sum(size(p) for _, p in chosen)))
+    return {pin: part for pin, (_, part) in zip(sorted(nodes), best)}
+
+
+def reached(rank, nodes):
+    """A layout reaches the pin of rank p at number p mod c of its c nodes."""
+    return nodes[rank % len(nodes)]
+
+
+def parts_by_row(rank, nodes):
+    """For each row in which a part of the nodes can be reached, the longest such part; a part has two nodes where there are two."""
+    found = {}
+    for first, last in combinations_with_replacement(range(len(nodes)), 2):
+        count = last - first + 1
+        part = nodes[first][0], nodes[first][1], nodes[last][1]
+        row = reached(rank, [y for _, y in nodes[first:last + 1]])
+        if count >= min(LEAST_NODES, len(nodes)) and (row not in found or size(part) > size(found[row])):
+            found[row] = part
+    return found
+
+
+def size(part):
+    return part[2] - part[1]
 
 
 def fills(boxes, space):

@@ -29,14 +29,27 @@ def made(name, pins, size):
 
 
 def search(name, pins, seeds, least=2):
-    """The least columns with which one of so many seeds leads somewhere, each pin having two access nodes; or None."""
+    """The least columns with which one of so many seeds leads somewhere, each pin having two access nodes; or None.
+
+    Of the seeds the first counts by which all pins are reached in rows of their own, and where there is none the first.
+    """
     for columns in range(max(least, len(pins) + 1), MOST_COLUMNS + 1):
-        for size in (Size(columns, WISHED_NODES, seed) for seed in range(seeds)):
-            try:
-                made(name, pins, size)
-                return size
-            except TooNarrow:
-                break
-            except NoRoom:
-                continue
+        found = {size: rows for size, rows in tried(name, pins, columns, seeds)}
+        best = next((size for size, rows in found.items() if len(set(rows)) == len(rows)), next(iter(found), None))
+        if best:
+            return best
     return None
+
+
+def tried(name, pins, columns, seeds):
+    """Each size that leads somewhere with the rows in which its pins are reached, up to the first whose pins have rows of their own."""
+    for size in (Size(columns, WISHED_NODES, seed) for seed in range(seeds)):
+        try:
+            rows = made(name, pins, size).drawing.reached_rows()
+        except TooNarrow:
+            return
+        except NoRoom:
+            continue
+        yield size, rows
+        if len(set(rows)) == len(rows):
+            return
