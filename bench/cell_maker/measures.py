@@ -23,7 +23,7 @@ RAIL_MIDDLE = {"vss": 6, "vdd": 94}
 RAIL_STRIP_SPACE = 4  # from a rail to metal that isn't joined to it
 WELL = {"NWELL": (49, 103), "PWELL": (-3, 37)}  # both lie evenly about their diffusions, so that a table can make the implants of them
 WELL_BEYOND = 4
-TIE_DEPTH, TIE_CONTACT = 6, 4  # of a tie's strip from the cell's edge, and of the middles of its contacts
+TIE_DEPTH, TIE_CONTACT = 5, 3  # of a tie's strip from the cell's edge, and of the middles of its contacts
 GATE_OVERHANG = 2
 
 FIRST_NODE, LAST_NODE = 20, 80  # the lowest and the highest access node of a pin

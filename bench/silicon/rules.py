@@ -1,7 +1,7 @@
 """The rules that are looked at, in lambda: those of MOSIS for submicron processes (SCMOS_SUBM), the stricter one where these differ.
 
     well        12 wide; 6 beyond p active, 3 beyond n ties; 6 from n active, 3 from p ties
-    select      2 beyond its active, 2 from that of the other kind; the two kinds don't overlap
+    select      2 beyond its active, 3 from gates of the other kind; the two kinds don't overlap
     active      3 wide, 3 apart; 4 from ties of the other kind; 3 beyond a gate at its sides
     poly        2 wide, 3 apart; 2 beyond a gate at its ends; 1 from active that it isn't over
     cut         2 by 2, 3 apart; 1 within the layer below and metal 1; 2 from a gate; poly around one 4 from other poly
@@ -19,7 +19,7 @@ from .shapes import ACTIVE, CUT, METAL, N_ACTIVE, N_SELECT, N_TIE, P_ACTIVE, P_S
 LEAST_WIDTH = {WELL: 12, "active": 3, POLY: 2, METAL: 3}
 LEAST_SPACE = {"active": 3, POLY: 3, METAL: 3, CUT: 3}
 WELL_BEYOND, WELL_FROM = ((P_ACTIVE, 6), (N_TIE, 3)), ((N_ACTIVE, 6), (P_TIE, 3))
-SELECT_BEYOND = 2
+SELECT_BEYOND, SELECT_FROM_GATE, TIE_DEPTH = 2, 3, 5
 SELECTS = ((N_SELECT, (N_ACTIVE, N_TIE)), (P_SELECT, (P_ACTIVE, P_TIE)))
 ACTIVE_FROM_TIE, ACTIVE_BEYOND_GATE, POLY_BEYOND_GATE, POLY_FROM_ACTIVE = 4, 3, 2, 1
 CUT_SIDE, CUT_WITHIN, CUT_FROM_GATE, PAD_FROM_POLY, LEAST_AREA = 2, 1, 2, 4, 20
@@ -154,6 +154,10 @@ def selects(cell, masks):
     point = min(masks[N_SELECT].points & masks[P_SELECT].points, default=None)
     if point:
         yield f"{N_SELECT} over {P_SELECT} at {at(point)}"
+    for kind, gate in cell.gates:
+        other = P_SELECT if kind == "n" else N_SELECT
+        if any(distance(gate, box) < SELECT_FROM_GATE for box in cell.boxes[other]):
+            yield f"{other} nearer than {SELECT_FROM_GATE} to the gate {at(gate)}"
 
 
 def actives(cell, masks):
@@ -235,7 +239,7 @@ def sides(cell, masks):
             is_strip = layer == METAL and (box[3] <= STRIP or box[1] >= cell.height - STRIP)
             if not is_strip and (box[0] < SIDE_SPACE or box[2] > cell.width - SIDE_SPACE):
                 yield f"{layer} {at(box)} nearer than {SIDE_SPACE} to a side"
-    for layer, low, high in ((P_TIE, 0, 6), (N_TIE, cell.height - 6, cell.height)):
+    for layer, low, high in ((P_TIE, 0, TIE_DEPTH), (N_TIE, cell.height - TIE_DEPTH, cell.height)):
         if not masks[layer].covers((0, low, cell.width, high)):
             yield f"the {layer} isn't a strip from side to side"
     if not any(box[0] <= -WELL_BEYOND_SIDES and box[2] >= cell.width + WELL_BEYOND_SIDES for box in cell.boxes[WELL]):
