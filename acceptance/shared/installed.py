@@ -80,7 +80,7 @@ def check(results, program):
         done = ran(room, prefix / "bin/alliance", "boog", shared / "examples/inverter/row1.vbe", "-l", shared / "cells", "-o", "n")
         results.note("the installed program", done.stdout == "cells 1\n", done.stdout + done.stderr)
         done = ran(room, prefix / "bin/alliance-stats", shared / "examples/checking/pick.ap", shared / "cells")
-        results.note("an installed program of share/", done.stdout.startswith("width 11500\n"), done.stdout + done.stderr)
+        results.note("an installed program of share/", done.stdout.startswith("width 12000\n"), done.stdout + done.stderr)
         check_manual(results, room)
         check_completion(results, room)
         os.remove(room.folder / "build/alliance")
