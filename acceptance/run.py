@@ -28,7 +28,7 @@ from acceptance.running import documents, front  # noqa: E402
 from acceptance.running.case_file import case_files  # noqa: E402
 from acceptance.running.cases import check_case  # noqa: E402
 from acceptance.running.results import Results  # noqa: E402
-from acceptance.shared import installed, pages, pictures, programs  # noqa: E402
+from acceptance.shared import installed, liberty, pages, pictures, programs  # noqa: E402
 from acceptance.tools import cut_files, real_faults  # noqa: E402
 from acceptance.tools.table import TOOLS  # noqa: E402
 
@@ -41,6 +41,7 @@ def jobs_of(program, probe, cell_probe, maze_probe, seed, times):
     yield from pages.jobs(program)
     yield from programs.jobs(program)
     yield from pictures.jobs()
+    yield from liberty.jobs()
     yield from installed.jobs(program)
     yield from real_faults.jobs(program)
     yield from cut_files.jobs(program)

@@ -1,0 +1,266 @@
+#!/usr/bin/env python3
+"""Measures the cells of a row library by ngspice; bench/characterise.sh gives it the netlists and docs/share/characterisation.md says what is measured.
+
+Usage: bench/characterise.py LIBRARY NETLISTS            writes LIBRARY/timing.csv and bench/cell_numbers.csv
+       bench/characterise.py LIBRARY NETLISTS --check    compares what is measured with these two files, and ends with 1 where a number is off
+       bench/characterise.py LIBRARY NETLISTS --print    prints a line for each cell and writes nothing
+
+NETLISTS is a folder with the transistors of each cell, `CELL.spice`. Functions and pins are those of the library's vbe files. CELLS in the
+environment is a list of names, to which a run is restricted.
+"""
+
+import csv
+import io
+import itertools
+import math
+import os
+import pathlib
+import sys
+from typing import NamedTuple
+
+TOP = pathlib.Path(__file__).resolve().parent.parent
+sys.path.insert(0, str(TOP))
+
+from bench import flip_flop_times, spice  # noqa: E402
+from bench.spice import Copy, Event  # noqa: E402
+from share.formats import files  # noqa: E402
+
+NUMBERS, TABLES = TOP / "bench/cell_numbers.csv", "timing.csv"
+LOADS, SLOPES, FITTED = (2, 8, 32, 128), (40, 160, 640), (40, 160)
+SETTLED, WAIT = 4000, 6000
+# What a run anew may differ by: delays and transitions in ps, or as a share of the number.
+CLOSE_TIME, CLOSE_SHARE = 2.0, 0.02
+HEAD = ["cell", "input", "goes", "output", "makes", "sides", "slope", *(f"delay {load}" for load in LOADS), *(f"transition {load}" for load in LOADS)]
+EDGES = {1: "rise", 0: "fall"}
+WORDS = {(1, 0): "tphl", (0, 0): "tpll", (0, 1): "tplh", (1, 1): "tphh"}
+
+
+class Phase(NamedTuple):
+    """An input goes up and then down at fixed values of the others, and the output follows it, or its inverse."""
+
+    pin: str
+    sides: dict
+    inverts: bool
+
+
+class Edge(NamedTuple):
+    """What is measured of one edge of an input: delays and transitions by slope and load."""
+
+    pin: str
+    goes: int
+    makes: int
+    sides: str
+    delays: dict
+    transitions: dict
+
+
+class Measured(NamedTuple):
+    """Of one cell: the capacitance of each input, the edges that count, and the times of a flip-flop's data around its clock."""
+
+    cell: str
+    output: str
+    capacitances: dict
+    edges: list
+    constraints: dict
+
+
+# ---- gates
+
+
+def phases(model):
+    """Each input with all values of the others at which the output depends on it."""
+    names, output = [pin[0] for pin in model.inputs], model.outputs[0]
+    for k, pin in enumerate(names):
+        for others in itertools.product((0, 1), repeat=len(names) - 1):
+            low, high = (model.run((*others[:k], level, *others[k:]), ())[0][output] for level in (0, 1))
+            if low != high:
+                yield Phase(pin, dict(zip(names[:k] + names[k + 1 :], others)), low == 1)
+
+
+def schedule(asked):
+    """The events of all phases, one behind the other, and when the input of each rises."""
+    events, rises = [], []
+    for number, phase in enumerate(asked):
+        begin = 1000 + number * (SETTLED + 2 * WAIT)
+        events += [Event(begin, pin, level) for pin, level in {**phase.sides, phase.pin: 0}.items()]
+        events += [Event(begin + SETTLED, phase.pin, 1), Event(begin + SETTLED + WAIT, phase.pin, 0)]
+        rises.append(begin + SETTLED)
+    return events, rises
+
+
+def points(inputs):
+    """The copies of a cell: one for each slope and load."""
+    return {(slope, load): Copy(dict.fromkeys(inputs, slope), load, {}) for slope in SLOPES for load in LOADS}
+
+
+def delay_and_transition(waves, name, makes, begin, end):
+    """Of the output's last change between begin and end; `begin` is long before the input's, which is half way at the middle of a window."""
+    first, last = (spice.LOW, spice.HIGH) if makes else (spice.HIGH, spice.LOW)
+    found = [waves.last_crossing(name, part, makes, begin, end) for part in (spice.MIDDLE, first, last)]
+    if None in found:
+        raise spice.Trouble(f"{name} doesn't change between {begin} and {end} ps")
+    return found[0], found[2] - found[1]
+
+
+def edge_of(waves, pin, goes, makes, sides, at):
+    """One edge in all copies; it is half way at `at`."""
+    told = " ".join(f"{name}={level}" for name, level in sides.items())
+    delays, transitions = {}, {}
+    for number, key in enumerate(itertools.product(SLOPES, LOADS)):
+        middle, transitions[key] = delay_and_transition(waves, f"v(out{number})", makes, at - SETTLED / 4, at + WAIT - SETTLED / 4)
+        delays[key] = middle - at
+    return Edge(pin, goes, makes, told, delays, transitions)
+
+
+def capacitance(waves, inputs, pin, at):
+    """The greatest charge that an edge at `at` takes from one copy, over the supply, over all slopes."""
+    copies = [Copy(dict.fromkeys(inputs, slope), 0, {}) for slope in SLOPES]
+    sources = [f"i(v{spice.source_of(copy, pin)})" for copy in copies]
+    return max(waves.charge(source, at - SETTLED / 4, at + WAIT - SETTLED / 4) for source in sources) / len(LOADS) / spice.SUPPLY
+
+
+def gate(model, netlist):
+    inputs, output, asked = [pin[0] for pin in model.inputs], model.outputs[0][0], list(phases(model))
+    if not asked:
+        return Measured(model.name, output, {}, [], {})
+    events, rises = schedule(asked)
+    waves = spice.simulated(netlist, inputs, output, list(points(inputs).values()), events, rises[-1] + 2 * WAIT)
+    edges, capacitances = {}, dict.fromkeys(inputs, 0)
+    for phase, rise in zip(asked, rises):
+        for goes, at in ((1, rise), (0, rise + WAIT)):
+            edge = edge_of(waves, phase.pin, goes, goes ^ phase.inverts, phase.sides, at)
+            edges.setdefault((phase.pin, goes, edge.makes), []).append(edge)
+            capacitances[phase.pin] = max(capacitances[phase.pin], capacitance(waves, inputs, phase.pin, at))
+    return Measured(model.name, output, capacitances, [worst(tried) for tried in edges.values()], {})
+
+
+def worst(tried):
+    """The edge whose side values make it slowest at the middle slope and load."""
+    return max(tried, key=lambda edge: edge.delays[SLOPES[1], LOADS[2]])
+
+
+# ---- flip-flops
+
+
+def flip_flop(model, netlist):
+    """The clock rises with 0, 1 and 0 at the data; the data changes while the clock is 0."""
+    clock, data, output = model.clock[0], model.data()[0], model.outputs[0][0]
+    inputs, events, rises = [data, clock], [], []
+    for number, level in enumerate((0, 1, 0)):
+        begin = 1000 + number * (SETTLED + 2 * WAIT)
+        events += [Event(begin, data, level), Event(begin + SETTLED, clock, 1), Event(begin + SETTLED + WAIT, clock, 0)]
+        rises.append(begin + SETTLED)
+    waves = spice.simulated(netlist, inputs, output, list(points(inputs).values()), events, rises[-1] + 2 * WAIT)
+    edges = [edge_of(waves, clock, 1, makes, {}, at) for makes, at in ((1, rises[1]), (0, rises[2]))]
+    capacitances = {
+        clock: max(capacitance(waves, inputs, clock, at) for rise in rises[1:] for at in (rise, rise + WAIT)),
+        data: max(capacitance(waves, inputs, data, rise - SETTLED) for rise in rises[1:]),
+    }
+    return Measured(model.name, output, capacitances, edges, flip_flop_times.constraints(netlist, clock, data, output))
+
+
+# ---- the line of least squares
+
+
+def line(edge):
+    """t and R of delay = t + R * C by least squares over all loads and the fitted slopes, and how far the farthest point is from it."""
+    found = [(load, edge.delays[slope, load]) for slope in FITTED for load in LOADS]
+    x, y = (sum(values) / len(found) for values in zip(*found))
+    drag = sum((load - x) * (delay - y) for load, delay in found) / sum((load - x) ** 2 for load, _ in found)
+    return y - drag * x, drag, max(abs(y + drag * (load - x) - delay) for load, delay in found)
+
+
+def numbers(measured):
+    """The rows of bench/cell_numbers.csv for a cell: pin, quantity, and the number that its generic gets. A resistance counts for all edges
+    of an output, so of edges with several the greatest stands."""
+    for pin, value in measured.capacitances.items():
+        yield pin, "cin", round(value)
+    for pin in measured.capacitances:
+        for makes, drag in ((0, "rdown"), (1, "rup")):
+            lines = {WORDS[edge.goes, edge.makes]: line(edge) for edge in measured.edges if (edge.pin, edge.makes) == (pin, makes)}
+            yield from ((pin, word, max(0, round(time))) for word, (time, _, _) in lines.items())
+            if lines:
+                yield pin, drag, round(1000 * max(resistance for _, resistance, _ in lines.values()))
+    for (pin, quantity), value in measured.constraints.items():
+        yield pin, quantity, max(0, math.ceil(value))
+
+
+def rows(measured):
+    """The rows of timing.csv for a cell."""
+    for edge in measured.edges:
+        for slope in SLOPES:
+            values = [f"{table[slope, load]:.1f}" for table in (edge.delays, edge.transitions) for load in LOADS]
+            yield [measured.cell, edge.pin, EDGES[edge.goes], measured.output, EDGES[edge.makes], edge.sides, slope, *values]
+
+
+def told(measured):
+    """A line for people: the numbers, and the worst distance from a line in ps."""
+    distance = max((line(edge)[2] for edge in measured.edges), default=0)
+    return f"{measured.cell}: {', '.join(f'{pin} {quantity} {value}' for pin, quantity, value in numbers(measured))}; within {distance:.1f} ps"
+
+
+# ---- the command
+
+
+def measured_cells(library, netlists):
+    wanted = os.environ.get("CELLS", "").split()
+    for name, model in files.library(library).items():
+        if model.is_plain and (not wanted or name in wanted):
+            netlist = spice.netlist(netlists / f"{name}.spice")
+            yield (flip_flop if model.registers else gate)(model, netlist)
+
+
+def csv_text(head, lines):
+    text = io.StringIO()
+    csv.writer(text, lineterminator="\n").writerows([head, *lines])
+    return text.getvalue()
+
+
+def texts(found):
+    """The two files."""
+    of_generics = [[measured.cell, *row] for measured in found for row in numbers(measured)]
+    return csv_text(["cell", "pin", "quantity", "value"], of_generics), csv_text(HEAD, [row for measured in found for row in rows(measured)])
+
+
+def is_close(kept, made):
+    try:
+        kept, made = float(kept), float(made)
+    except ValueError:
+        return kept == made
+    return abs(kept - made) <= max(CLOSE_TIME, CLOSE_SHARE * abs(kept))
+
+
+def differences(name, kept, made):
+    """The rows that are off, or are in one text alone."""
+    pairs = itertools.zip_longest(csv.reader(io.StringIO(kept)), csv.reader(io.StringIO(made)), fillvalue=[])
+    for number, (old, new) in enumerate(pairs, 1):
+        if len(old) != len(new) or not all(map(is_close, old, new)):
+            yield f"{name}:{number}: {','.join(old)} is kept, {','.join(map(str, new))} is measured"
+
+
+def main(words):
+    if len(words) not in (2, 3) or words[2:] not in ([], ["--check"], ["--print"]):
+        print(__doc__, file=sys.stderr)
+        return 2
+    library, netlists = map(pathlib.Path, words[:2])
+    found = []
+    for measured in measured_cells(library, netlists):
+        found.append(measured)
+        print(told(measured), flush=True)
+    if words[2:] == ["--print"]:
+        return 0
+    places = (NUMBERS, library / TABLES)
+    if words[2:] == ["--check"]:
+        off = [line for place, text in zip(places, texts(found)) for line in differences(place.name, place.read_text(), text)]
+        print("\n".join(off) or f"{len(found)} cells: the numbers are as they are kept")
+        return 1 if off else 0
+    for place, text in zip(places, texts(found)):
+        place.write_text(text)
+    return 0
+
+
+if __name__ == "__main__":
+    try:
+        sys.exit(main(sys.argv[1:]))
+    except (spice.Trouble, files.Trouble, OSError) as trouble:
+        sys.exit(f"characterise: {trouble}")
