@@ -1,5 +1,5 @@
 #!/usr/bin/env python3
-"""Measures the cells of a row library by ngspice; bench/characterise.sh gives it the netlists and docs/share/characterisation.md says what is measured.
+"""Measures the cells of a row library by ngspice. bench/characterise.sh gives it the netlists; docs/CHARACTERISATION.md says what is measured.
 
 Usage: bench/characterise.py LIBRARY NETLISTS            writes LIBRARY/timing.csv and bench/cell_numbers.csv
        bench/characterise.py LIBRARY NETLISTS --check    compares what is measured with these two files, and ends with 1 where a number is off
@@ -41,6 +41,16 @@ class Phase(NamedTuple):
     pin: str
     sides: dict
     inverts: bool
+
+
+class Change(NamedTuple):
+    """An input that goes to 0 or 1 makes the output go to 0 or 1; at `at` the input is half way."""
+
+    pin: str
+    goes: int
+    makes: int
+    sides: dict
+    at: float
 
 
 class Edge(NamedTuple):
@@ -88,50 +98,53 @@ def schedule(asked):
     return events, rises
 
 
-def points(inputs):
+def points(cell):
     """The copies of a cell: one for each slope and load."""
-    return {(slope, load): Copy(dict.fromkeys(inputs, slope), load, {}) for slope in SLOPES for load in LOADS}
+    return {(slope, load): Copy(dict.fromkeys(cell.inputs, slope), load, {}) for slope in SLOPES for load in LOADS}
 
 
-def delay_and_transition(waves, name, makes, begin, end):
-    """Of the output's last change between begin and end; `begin` is long before the input's, which is half way at the middle of a window."""
-    first, last = (spice.LOW, spice.HIGH) if makes else (spice.HIGH, spice.LOW)
-    found = [waves.last_crossing(name, part, makes, begin, end) for part in (spice.MIDDLE, first, last)]
-    if None in found:
-        raise spice.Trouble(f"{name} doesn't change between {begin} and {end} ps")
-    return found[0], found[2] - found[1]
+def passed(waves, number, change, part):
+    """When the output of a copy passes a part of the supply in this change, the last time."""
+    found = waves.last_crossing(f"v(out{number})", part, change.makes, change.at - SETTLED / 4, change.at + WAIT - SETTLED / 4)
+    if found is None:
+        raise spice.Trouble(f"an output doesn't change behind {change}")
+    return found
 
 
-def edge_of(waves, pin, goes, makes, sides, at):
-    """One edge in all copies; it is half way at `at`."""
-    told = " ".join(f"{name}={level}" for name, level in sides.items())
+def edge_of(waves, change):
+    """A change in all copies."""
+    first, last = (spice.LOW, spice.HIGH) if change.makes else (spice.HIGH, spice.LOW)
     delays, transitions = {}, {}
     for number, key in enumerate(itertools.product(SLOPES, LOADS)):
-        middle, transitions[key] = delay_and_transition(waves, f"v(out{number})", makes, at - SETTLED / 4, at + WAIT - SETTLED / 4)
-        delays[key] = middle - at
-    return Edge(pin, goes, makes, told, delays, transitions)
+        delays[key] = passed(waves, number, change, spice.MIDDLE) - change.at
+        transitions[key] = passed(waves, number, change, last) - passed(waves, number, change, first)
+    return Edge(change.pin, change.goes, change.makes, " ".join(f"{name}={level}" for name, level in change.sides.items()), delays, transitions)
 
 
-def capacitance(waves, inputs, pin, at):
+def capacitance(waves, cell, pin, at):
     """The greatest charge that an edge at `at` takes from one copy, over the supply, over all slopes."""
-    copies = [Copy(dict.fromkeys(inputs, slope), 0, {}) for slope in SLOPES]
-    sources = [f"i(v{spice.source_of(copy, pin)})" for copy in copies]
+    sources = {f"i(v{spice.source_of(copy, pin)})" for copy in points(cell).values()}
     return max(waves.charge(source, at - SETTLED / 4, at + WAIT - SETTLED / 4) for source in sources) / len(LOADS) / spice.SUPPLY
 
 
-def gate(model, netlist):
-    inputs, output, asked = [pin[0] for pin in model.inputs], model.outputs[0][0], list(phases(model))
+def gate(model, netlists):
+    """What is measured of a gate."""
+    cell, asked = cell_of(model, [pin[0] for pin in model.inputs], netlists), list(phases(model))
     if not asked:
-        return Measured(model.name, output, {}, [], {})
+        return Measured(cell.name, cell.output, {}, [], {})
     events, rises = schedule(asked)
-    waves = spice.simulated(netlist, inputs, output, list(points(inputs).values()), events, rises[-1] + 2 * WAIT)
-    edges, capacitances = {}, dict.fromkeys(inputs, 0)
+    waves = spice.simulated(cell, list(points(cell).values()), events, rises[-1] + 2 * WAIT)
+    edges, capacitances = {}, dict.fromkeys(cell.inputs, 0)
     for phase, rise in zip(asked, rises):
         for goes, at in ((1, rise), (0, rise + WAIT)):
-            edge = edge_of(waves, phase.pin, goes, goes ^ phase.inverts, phase.sides, at)
-            edges.setdefault((phase.pin, goes, edge.makes), []).append(edge)
-            capacitances[phase.pin] = max(capacitances[phase.pin], capacitance(waves, inputs, phase.pin, at))
-    return Measured(model.name, output, capacitances, [worst(tried) for tried in edges.values()], {})
+            change = Change(phase.pin, goes, goes ^ phase.inverts, phase.sides, at)
+            edges.setdefault((phase.pin, goes, change.makes), []).append(edge_of(waves, change))
+            capacitances[phase.pin] = max(capacitances[phase.pin], capacitance(waves, cell, phase.pin, at))
+    return Measured(cell.name, cell.output, capacitances, [worst(tried) for tried in edges.values()], {})
+
+
+def cell_of(model, inputs, netlists):
+    return spice.cell(netlists / f"{model.name}.spice", inputs, model.outputs[0][0])
 
 
 def worst(tried):
@@ -142,21 +155,21 @@ def worst(tried):
 # ---- flip-flops
 
 
-def flip_flop(model, netlist):
-    """The clock rises with 0, 1 and 0 at the data; the data changes while the clock is 0."""
-    clock, data, output = model.clock[0], model.data()[0], model.outputs[0][0]
-    inputs, events, rises = [data, clock], [], []
+def flip_flop(model, netlists):
+    """What is measured of a flip-flop: the clock rises with 0, 1 and 0 at the data, which changes while the clock is 0."""
+    clock, data = model.clock[0], model.data()[0]
+    cell, events, rises = cell_of(model, [data, clock], netlists), [], []
     for number, level in enumerate((0, 1, 0)):
         begin = 1000 + number * (SETTLED + 2 * WAIT)
         events += [Event(begin, data, level), Event(begin + SETTLED, clock, 1), Event(begin + SETTLED + WAIT, clock, 0)]
         rises.append(begin + SETTLED)
-    waves = spice.simulated(netlist, inputs, output, list(points(inputs).values()), events, rises[-1] + 2 * WAIT)
-    edges = [edge_of(waves, clock, 1, makes, {}, at) for makes, at in ((1, rises[1]), (0, rises[2]))]
+    waves = spice.simulated(cell, list(points(cell).values()), events, rises[-1] + 2 * WAIT)
+    edges = [edge_of(waves, Change(clock, 1, makes, {}, at)) for makes, at in ((1, rises[1]), (0, rises[2]))]
     capacitances = {
-        clock: max(capacitance(waves, inputs, clock, at) for rise in rises[1:] for at in (rise, rise + WAIT)),
-        data: max(capacitance(waves, inputs, data, rise - SETTLED) for rise in rises[1:]),
+        clock: max(capacitance(waves, cell, clock, at) for rise in rises[1:] for at in (rise, rise + WAIT)),
+        data: max(capacitance(waves, cell, data, rise - SETTLED) for rise in rises[1:]),
     }
-    return Measured(model.name, output, capacitances, edges, flip_flop_times.constraints(netlist, clock, data, output))
+    return Measured(cell.name, cell.output, capacitances, edges, flip_flop_times.constraints(cell))
 
 
 # ---- the line of least squares
@@ -206,8 +219,7 @@ def measured_cells(library, netlists):
     wanted = os.environ.get("CELLS", "").split()
     for name, model in files.library(library).items():
         if model.is_plain and (not wanted or name in wanted):
-            netlist = spice.netlist(netlists / f"{name}.spice")
-            yield (flip_flop if model.registers else gate)(model, netlist)
+            yield (flip_flop if model.registers else gate)(model, netlists)
 
 
 def csv_text(head, lines):

@@ -3,17 +3,16 @@
 The clock rises twice. Before the first rise the data is the old value, which the output then shows; the second rise meets the new value.
 Setup: the data becomes new some time before the second rise, and stays. Hold: it is new long before, and becomes old some time after the rise.
 A time is enough if the output changes at most a tenth later than it does with a time that is long, and shows the new value to the end. A
-time is searched in steps of 50, of 5 and of 1 ps, for each pair of slopes of clock and data; the longest of the pairs counts.
+time is searched in steps of 100, 20, 4 and 1 ps, for slow data with a fast clock and for fast data with a slow one; the longer one counts.
 """
-
-import itertools
 
 from bench import spice
 from bench.spice import Copy, Event
 
-SLOPES, LOAD, SHARE = (40, 160), 8, 1.1
-FIRST, FALL, SECOND, END, LONG = 3000, 5000, 9000, 12000, 2000
-COARSE, FINER = range(-200, 301, 50), (5, 1)
+# The slopes of clock and data.
+PAIRS, LOAD, SHARE = ((40, 160), (160, 40)), 8, 1.1
+FIRST, FALL, SECOND, END, LONG = 2500, 4500, 7000, 9500, 2000
+COARSE, FINER = range(-200, 401, 100), (20, 4, 1)
 SETUP, HOLD = "setup", "hold"
 # The generics for them: setup and hold of a rising and of a falling data input.
 WORDS = {(SETUP, 1): "tsr", (SETUP, 0): "tsf", (HOLD, 1): "thr", (HOLD, 0): "thf"}
@@ -30,9 +29,9 @@ def schedule(kind, clock, data, new):
 class Bench:
     """One search: a flip-flop, what is asked of it, and the slopes of clock and data."""
 
-    def __init__(self, netlist, pins, kind, new):
-        self.netlist, self.kind, self.new = netlist, kind, new
-        self.clock, self.data, self.output = pins
+    def __init__(self, cell, kind, new):
+        self.cell, self.kind, self.new = cell, kind, new
+        self.data, self.clock = cell.inputs
 
     def copy(self, slopes, time):
         moved = -time if self.kind == SETUP else time
@@ -43,7 +42,7 @@ class Bench:
         asked = list(asked)
         tried = [*asked, *((slopes, LONG) for slopes in dict(asked))]
         events = schedule(self.kind, self.clock, self.data, self.new)
-        waves = spice.simulated(self.netlist, [self.data, self.clock], self.output, [self.copy(*one) for one in tried], events, END)
+        waves = spice.simulated(self.cell, [self.copy(*one) for one in tried], events, END)
         shown = {one: self.shows(waves, f"v(out{number})") for number, one in enumerate(tried)}
         latest = {slopes: SHARE * shown[slopes, LONG] for slopes in dict(asked)}
         return {one: shown[one] is not None and shown[one] <= latest[one[0]] for one in asked}
@@ -65,16 +64,17 @@ def least(enough, step):
 
 
 def search(bench):
-    pairs = list(itertools.product(SLOPES, repeat=2))
-    found, step = least(bench.enough((pair, time) for pair in pairs for time in COARSE), COARSE.step), COARSE.step
-    if set(found) != set(pairs) or COARSE.stop in found.values():
-        raise spice.Trouble(f"{bench.netlist.name}: {bench.kind} isn't between {COARSE.start} and {COARSE.stop} ps")
+    found, step = least(bench.enough((pair, time) for pair in PAIRS for time in COARSE), COARSE.step), COARSE.step
+    if set(found) != set(PAIRS) or COARSE.stop in found.values():
+        raise spice.Trouble(f"{bench.cell.name}: {bench.kind} isn't between {COARSE.start} and {COARSE.stop} ps")
     for finer in FINER:
-        asked = [(pair, found[pair] - offset) for pair in pairs for offset in range(finer, step + 1, finer)]
-        found, step = least(bench.enough(asked), finer), finer
+        asked = [(pair, found[pair] - offset) for pair in PAIRS for offset in range(finer, step, finer)]
+        lower = {pair: time - step + finer for pair, time in found.items()}
+        found, step = lower | least(bench.enough(asked), finer), finer
     return max(found.values())
 
 
-def constraints(netlist, clock, data, output):
-    """Setup and hold by the data's pin and the word of its generic, in ps; a time below 0 lies on the other side of the clock's edge."""
-    return {(data, word): search(Bench(netlist, (clock, data, output), kind, new)) for (kind, new), word in WORDS.items()}
+def constraints(cell):
+    """Setup and hold by the data's pin and the word of its generic, in ps, of a cell whose inputs are its data and its clock; a time below 0
+    lies on the other side of the clock's edge."""
+    return {(cell.inputs[0], word): search(Bench(cell, kind, new)) for (kind, new), word in WORDS.items()}

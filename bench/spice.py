@@ -43,27 +43,26 @@ class Copy(NamedTuple):
     later: dict
 
 
-class Netlist(NamedTuple):
+class Cell(NamedTuple):
+    """A cell's transistors as a subcircuit of its name, the ports in their order there, and which are its inputs and its output."""
+
     name: str
+    inputs: list
+    output: str
     ports: list
     text: str
 
 
-def netlist(path):
-    """A cell's transistors, as magic writes them: with a `.subckt` of its own, or bare."""
-    name, text = path.stem, path.read_text()
-    head = re.search(rf"^\.subckt {name} (.*)$", text, re.M | re.I)
+def cell(path, inputs, output):
+    """The transistors that Magic wrote: with a `.subckt` of their own, or bare."""
+    text = re.sub(r"^\.end\s*$", "", path.read_text(), flags=re.M)
     if not re.search(r"^M", text, re.M):
         raise Trouble(f"{path}: there is no transistor")
+    head = re.search(rf"^\.subckt {path.stem} (.*)$", text, re.M | re.I)
     if head:
-        return Netlist(name, head[1].split(), re.sub(r"^\.end\s*$", "", text, flags=re.M))
-    return Netlist(name, [], re.sub(r"^\.end\s*$", "", text, flags=re.M))
-
-
-def subcircuit(cell, ports):
-    if cell.ports:
-        return cell.text, cell.ports
-    return f".subckt {cell.name} {' '.join(ports)}\n{cell.text}\n.ends\n", ports
+        return Cell(path.stem, inputs, output, head[1].split(), text)
+    ports = [*inputs, output, "vdd", "vss"]
+    return Cell(path.stem, inputs, output, ports, f".subckt {path.stem} {' '.join(ports)}\n{text}\n.ends\n")
 
 
 # ---- decks
@@ -86,18 +85,16 @@ def source_of(copy, pin):
     return f"{pin}_{copy.slopes[pin]:g}_{copy.later.get(pin, 0):g}".replace("-", "m").replace(".", "p")
 
 
-def deck(cell, inputs, output, copies, events, end):
-    text, ports = subcircuit(cell, [*inputs, output, "vdd", "vss"])
-    lines = [f"* {cell.name}", MODELS, text, f"vvdd vdd 0 {SUPPLY}", "vvss vss 0 0", f".options {OPTIONS}"]
-    sources = {source_of(copy, pin): (pin, copy) for copy in copies for pin in inputs}
+def deck(cell, copies, events, end):
+    lines = [f"* {cell.name}", MODELS, cell.text, f"vvdd vdd 0 {SUPPLY}", "vvss vss 0 0", f".options {OPTIONS}"]
+    sources = {source_of(copy, pin): (pin, copy) for copy in copies for pin in cell.inputs}
     for name, (pin, copy) in sources.items():
         lines.append(f"v{name} {name} 0 {ramp(events, pin, copy.slopes[pin], copy.later.get(pin, 0))}")
     for number, copy in enumerate(copies):
-        nets = {**{pin: source_of(copy, pin) for pin in inputs}, output: f"out{number}", "vdd": "vdd", "vss": "vss"}
-        lines += [f"x{number} {' '.join(nets[port] for port in ports)} {cell.name}", f"c{number} out{number} 0 {copy.load}f"]
+        nets = {**{pin: source_of(copy, pin) for pin in cell.inputs}, cell.output: f"out{number}", "vdd": "vdd", "vss": "vss"}
+        lines += [f"x{number} {' '.join(nets[port] for port in cell.ports)} {cell.name}", f"c{number} out{number} 0 {copy.load}f"]
     saved = [f"v(out{number})" for number in range(len(copies))] + [f"i(v{name})" for name in sources]
-    lines += [f".save {' '.join(saved)}", f".tran {LONGEST_STEP}p {end}p 0 {LONGEST_STEP}p", ".end", ""]
-    return "\n".join(lines)
+    return "\n".join([*lines, f".save {' '.join(saved)}", f".tran {LONGEST_STEP}p {end}p 0 {LONGEST_STEP}p", ".end", ""])
 
 
 class Waves:
@@ -133,11 +130,11 @@ class Waves:
         return abs(sum((values[k] + values[k - 1]) / 2 * (self.times[k] - self.times[k - 1]) for k in self.between(begin, end))) * 1e3
 
 
-def simulated(cell, inputs, output, copies, events, end):
-    """The waves of a run."""
+def simulated(cell, copies, events, end):
+    """The waves of all copies, from 0 to `end`."""
     with tempfile.TemporaryDirectory() as folder:
         there = pathlib.Path(folder)
-        (there / "deck.cir").write_text(deck(cell, inputs, output, copies, events, end))
+        (there / "deck.cir").write_text(deck(cell, copies, events, end))
         command = ["ngspice", "-b", "-r", "waves.raw", "deck.cir"]
         done = subprocess.run(command, cwd=folder, stdin=subprocess.DEVNULL, capture_output=True, text=True, timeout=SECONDS, check=False)
         if done.returncode or not (there / "waves.raw").exists():

@@ -49,7 +49,13 @@ set_output_delay 0 -clock ck [all_outputs]
 report_checks -path_delay max -digits 2
 exit
 """
-FILTER = "proc filter_out_clock {ports} { set found {}; foreach port $ports { if {[get_property $port full_name] ne {ck}} { lappend found $port } }; return $found }\n"
+FILTER = """\
+proc filter_out_clock {ports} {
+  set found {}
+  foreach port $ports { if {[get_property $port full_name] ne {ck}} { lappend found $port } }
+  return $found
+}
+"""
 MAPPED = """\
 read_verilog s.v
 synth -flatten
@@ -67,7 +73,8 @@ class Work:
         self.program, self.library, self.folder = program, library, pathlib.Path(folder)
 
     def printed(self, *command):
-        done = subprocess.run([str(word) for word in command], cwd=self.folder, stdin=subprocess.DEVNULL, capture_output=True, text=True, timeout=SECONDS, check=False)
+        words, how = [str(word) for word in command], {"stdin": subprocess.DEVNULL, "capture_output": True, "text": True}
+        done = subprocess.run(words, cwd=self.folder, timeout=SECONDS, check=False, **how)
         if done.returncode:
             raise SystemExit(f"{' '.join(map(str, command))}: status {done.returncode}\n{done.stdout[-500:]}{done.stderr[-500:]}")
         return done.stdout

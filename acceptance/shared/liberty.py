@@ -94,14 +94,15 @@ def check_cells(results):
             truth = tuple(valued(function, dict(zip(names, vector))) for vector in itertools.product((0, 1), repeat=len(names)))
             results.note(f"the function of {name}", truth == model.table(), function)
         for pin in [model.clock] if model.registers else model.inputs:
-            found = [table(group, kind)[0] for group in arcs(cell, spelled(output), spelled(pin)) for kind in ("cell_fall", "cell_rise") if kind in kinds(group)]
+            found = [row for group in arcs(cell, spelled(output), spelled(pin)) for row in delays(group)]
             for k in (0, 5):
                 seen, wanted = round(1000 * max(row[k] for row in found)), timing.arc_time(model.generics, pin, output, int(loads[k]))
                 results.note(f"the time from {spelled(pin)} in {name} at the load {loads[k]}", seen == wanted, f"{seen} and {wanted}")
 
 
-def kinds(group):
-    return [one.kind for one in group.groups]
+def delays(group):
+    """The first rows of the tables of delays of a timing group."""
+    return [numbers(one.values["values"][0]) for one in group.groups if one.kind in ("cell_fall", "cell_rise")]
 
 
 # ---- by hand
