@@ -10,7 +10,8 @@ that file missing, and with a full output; each tool where something of the mach
 the same cases; and then the texts that each tool's module makes. Each language has one second reader, written from docs/FORMATS.md in this
 language; nothing that a program printed is wanted of it. What the documents name is looked up too, by bench/claims.py, and
 bench/headline.py has to write docs/HEADLINE.md as it stands. The commands of README, TOUR and other pages are run and compared with what
-the pages show, and the programs of share/ are tried.
+the pages show, and the programs of share/ are tried. The row library is looked at below metal 1, and where Magic and Netgen are installed, so is
+the real layout of a counter.
 
 --many makes ten times as many random texts. What can't be run on this machine is skipped with a line. The last line is
 `N passed, N failed, N skipped`.
@@ -24,7 +25,7 @@ from multiprocessing import Pool
 
 sys.path[0] = str(pathlib.Path(__file__).resolve().parent.parent)
 from acceptance import cells, moves  # noqa: E402
-from acceptance.running import documents, front  # noqa: E402
+from acceptance.running import below_metal, documents, front  # noqa: E402
 from acceptance.running.case_file import case_files  # noqa: E402
 from acceptance.running.cases import check_case  # noqa: E402
 from acceptance.running.results import Results  # noqa: E402
@@ -43,6 +44,7 @@ def jobs_of(program, probe, cell_probe, maze_probe, seed, times):
     yield from pictures.jobs()
     yield from liberty.jobs()
     yield from installed.jobs(program)
+    yield from below_metal.jobs(program)
     yield from real_faults.jobs(program)
     yield from cut_files.jobs(program)
     yield from front.jobs(probe, seed, times)

@@ -12,22 +12,34 @@ import sys
 HERE = pathlib.Path(__file__).resolve().parent
 sys.path.append(str(HERE.parent))
 from share.formats import ap, cellcheck  # noqa: E402
+from share.formats.cellcheck import multiples  # noqa: E402
 from share.formats.extraction import instances_of  # noqa: E402
 import viewer  # noqa: E402
 
-CELLS = {"inv_x1": (1500, (500, 1000)), "na2_x1": (2000, (500, 1000, 1500)), "sff1_x4": (4000, (500, 1500, 3000))}
+LIBRARY, HEIGHT, TURNED = HERE.parent / "cells", 5000, {False: "NOSYM", True: "SYM_Y"}
+MODELS = ("inv_x1", "na2_x1", "na2_x1", "sff1_x4")
 RAILS = {False: ((300, "vss"), (4700, "vdd")), True: ((300, "vdd"), (4700, "vss"))}
 
 
-def row(number, count, choose):
+def places():
+    """For each cell its width, and the access nodes of each of its signal pins."""
+    made = {}
+    for name, cell in cellcheck.cells(cellcheck.folder(LIBRARY), False).items():
+        rects = [cell.rects(pin) for pin in cell.signals()]
+        made[name] = cell.width, [[(x, y) for r in of_pin for x in multiples(r[0], r[2]) for y in multiples(r[1], r[3])] for of_pin in rects]
+    return made
+
+
+def row(cells, number, count, choose):
     """Instances of one row, what stands on their pins, and the wires that can be moved."""
-    foot, is_turned, x = 5000 * number, number % 2 == 1, 1500
+    foot, is_turned, x = HEIGHT * number, number % 2 == 1, 1500
     for k in range(count):
-        model = choose.choice(["inv_x1", "na2_x1", "na2_x1", "sff1_x4"])
-        width, pins = CELLS[model]
-        yield f"I {x},{foot},{model},g{number}_{k},{'SYM_Y' if is_turned else 'NOSYM'}"
-        for at in pins:
-            y = foot + choose.randrange(1000, 3501, 500)
+        model = choose.choice(MODELS)
+        width, pins = cells[model]
+        yield f"I {x},{foot},{model},g{number}_{k},{TURNED[is_turned]}"
+        for nodes in pins:
+            at, up = choose.choice(nodes)
+            y = foot + (HEIGHT - up if is_turned else up)
             yield f"V {x + at},{y},CONT_VIA,*"
             yield f"V {x + at},{y + 500},CONT_VIA2,*"
             yield f"S {x + at},{y},{x + at},{y + 500},200,*,UP,ALU2"
@@ -49,15 +61,16 @@ def written(path, lines):
 
 def main():
     if sys.argv[1:2] == ["--cif"]:
-        figure, cells = ap.read(pathlib.Path(sys.argv[2]).read_bytes()), cellcheck.cells(cellcheck.folder(HERE.parent / "cells"), False)
+        figure, cells = ap.read(pathlib.Path(sys.argv[2]).read_bytes()), cellcheck.cells(cellcheck.folder(LIBRARY), False)
         print("\n".join(cif(figure, cells)))
         return
     count, folder, choose = int(sys.argv[1]), pathlib.Path(sys.argv[2]), random.Random(sys.argv[1])
     rows = max(1, math.isqrt(count // 2))
-    lines = [line for k in range(rows) for line in row(k, (count + k) // rows, choose)]
+    cells = places()
+    lines = [line for k in range(rows) for line in row(cells, k, (count + k) // rows, choose)]
     written(folder / "a.ap", lines)
-    places = [k for k, line in enumerate(lines) if line.endswith("ALU3")]
-    chosen = set(choose.sample(places, max(1, len(places) // 100)))
+    wires = [k for k, line in enumerate(lines) if line.endswith("ALU3")]
+    chosen = set(choose.sample(wires, max(1, len(wires) // 100)))
     written(folder / "b.ap", [moved(line) if k in chosen else line for k, line in enumerate(lines)])
 
 
