@@ -10,12 +10,12 @@ environment is a list of names, to which a run is restricted.
 """
 
 import csv
-import io
 import itertools
 import math
 import os
 import pathlib
 import sys
+from collections.abc import Callable
 from typing import NamedTuple
 
 TOP = pathlib.Path(__file__).resolve().parent.parent
@@ -187,15 +187,15 @@ def numbers(measured):
     """The rows of bench/cell_numbers.csv for a cell: pin, quantity, and the number that its generic gets. A resistance counts for all edges
     of an output, so of edges with several the greatest stands."""
     for pin, value in measured.capacitances.items():
-        yield pin, "cin", round(value)
+        yield measured.cell, pin, "cin", round(value)
     for pin in measured.capacitances:
         for makes, drag in ((0, "rdown"), (1, "rup")):
             lines = {WORDS[edge.goes, edge.makes]: line(edge) for edge in measured.edges if (edge.pin, edge.makes) == (pin, makes)}
-            yield from ((pin, word, max(0, round(time))) for word, (time, _, _) in lines.items())
+            yield from ((measured.cell, pin, word, max(0, round(time))) for word, (time, _, _) in lines.items())
             if lines:
-                yield pin, drag, round(1000 * max(resistance for _, resistance, _ in lines.values()))
+                yield measured.cell, pin, drag, round(1000 * max(resistance for _, resistance, _ in lines.values()))
     for (pin, quantity), value in measured.constraints.items():
-        yield pin, quantity, max(0, math.ceil(value))
+        yield measured.cell, pin, quantity, max(0, math.ceil(value))
 
 
 def rows(measured):
@@ -209,7 +209,7 @@ def rows(measured):
 def told(measured):
     """A line for people: the numbers, and the worst distance from a line in ps."""
     distance = max((line(edge)[2] for edge in measured.edges), default=0)
-    return f"{measured.cell}: {', '.join(f'{pin} {quantity} {value}' for pin, quantity, value in numbers(measured))}; within {distance:.1f} ps"
+    return f"{measured.cell}: {', '.join(f'{pin} {quantity} {value}' for _, pin, quantity, value in numbers(measured))}; within {distance:.1f} ps"
 
 
 # ---- the command
@@ -222,16 +222,33 @@ def measured_cells(library, netlists):
             yield (flip_flop if model.registers else gate)(model, netlists)
 
 
-def csv_text(head, lines):
-    text = io.StringIO()
-    csv.writer(text, lineterminator="\n").writerows([head, *lines])
-    return text.getvalue()
+class File(NamedTuple):
+    """One of the two files: its place, its head, and the rows of a cell that was measured."""
 
+    place: pathlib.Path
+    head: list
+    rows: Callable
 
-def texts(found):
-    """The two files."""
-    of_generics = [[measured.cell, *row] for measured in found for row in numbers(measured)]
-    return csv_text(["cell", "pin", "quantity", "value"], of_generics), csv_text(HEAD, [row for measured in found for row in rows(measured)])
+    def kept(self):
+        """The rows that are there, by their cells."""
+        found = {}
+        for row in list(csv.reader(self.place.open(newline="")))[1:] if self.place.exists() else []:
+            found.setdefault(row[0], []).append(row)
+        return found
+
+    def write(self, found, names):
+        """Writes the rows of what was measured, and those that are there of the other cells, in the order of the names."""
+        rows = self.kept() | {measured.cell: list(self.rows(measured)) for measured in found}
+        with self.place.open("w", newline="") as file:
+            csv.writer(file, lineterminator="\n").writerows([self.head, *(row for name in names for row in rows.get(name, []))])
+
+    def differences(self, found):
+        """The rows of the cells that were measured which are off, or are there alone on one side."""
+        kept = self.kept()
+        for measured in found:
+            for old, new in itertools.zip_longest(kept.get(measured.cell, []), self.rows(measured), fillvalue=[]):
+                if len(old) != len(new) or not all(map(is_close, old, new)):
+                    yield f"{self.place.name}: {','.join(old)} is kept, {','.join(map(str, new))} is measured"
 
 
 def is_close(kept, made):
@@ -242,12 +259,8 @@ def is_close(kept, made):
     return abs(kept - made) <= max(CLOSE_TIME, CLOSE_SHARE * abs(kept))
 
 
-def differences(name, kept, made):
-    """The rows that are off, or are in one text alone."""
-    pairs = itertools.zip_longest(csv.reader(io.StringIO(kept)), csv.reader(io.StringIO(made)), fillvalue=[])
-    for number, (old, new) in enumerate(pairs, 1):
-        if len(old) != len(new) or not all(map(is_close, old, new)):
-            yield f"{name}:{number}: {','.join(old)} is kept, {','.join(map(str, new))} is measured"
+def files_of(library):
+    return File(NUMBERS, ["cell", "pin", "quantity", "value"], numbers), File(library / TABLES, HEAD, rows)
 
 
 def main(words):
@@ -259,15 +272,13 @@ def main(words):
     for measured in measured_cells(library, netlists):
         found.append(measured)
         print(told(measured), flush=True)
-    if words[2:] == ["--print"]:
-        return 0
-    places = (NUMBERS, library / TABLES)
     if words[2:] == ["--check"]:
-        off = [line for place, text in zip(places, texts(found)) for line in differences(place.name, place.read_text(), text)]
+        off = [line for file in files_of(library) for line in file.differences(found)]
         print("\n".join(off) or f"{len(found)} cells: the numbers are as they are kept")
         return 1 if off else 0
-    for place, text in zip(places, texts(found)):
-        place.write_text(text)
+    if not words[2:]:
+        for file in files_of(library):
+            file.write(found, files.library(library))
     return 0
 
 

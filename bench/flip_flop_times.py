@@ -12,7 +12,7 @@ from bench.spice import Copy, Event
 # The slopes of clock and data.
 PAIRS, LOAD, SHARE = ((40, 160), (160, 40)), 8, 1.1
 FIRST, FALL, SECOND, END, LONG = 2500, 4500, 7000, 9500, 2000
-COARSE, FINER = range(-200, 401, 100), (20, 4, 1)
+COARSE, FINER = range(-500, 501, 100), (20, 4, 1)
 SETUP, HOLD = "setup", "hold"
 # The generics for them: setup and hold of a rising and of a falling data input.
 WORDS = {(SETUP, 1): "tsr", (SETUP, 0): "tsf", (HOLD, 1): "thr", (HOLD, 0): "thf"}
@@ -42,7 +42,7 @@ class Bench:
         asked = list(asked)
         tried = [*asked, *((slopes, LONG) for slopes in dict(asked))]
         events = schedule(self.kind, self.clock, self.data, self.new)
-        waves = spice.simulated(self.cell, [self.copy(*one) for one in tried], events, END)
+        waves = spice.simulated(self.cell, [self.copy(*one) for one in tried], events, END, spice.QUICK)
         shown = {one: self.shows(waves, f"v(out{number})") for number, one in enumerate(tried)}
         latest = {slopes: SHARE * shown[slopes, LONG] for slopes in dict(asked)}
         return {one: shown[one] is not None and shown[one] <= latest[one[0]] for one in asked}
@@ -65,8 +65,8 @@ def least(enough, step):
 
 def search(bench):
     found, step = least(bench.enough((pair, time) for pair in PAIRS for time in COARSE), COARSE.step), COARSE.step
-    if set(found) != set(PAIRS) or COARSE.stop in found.values():
-        raise spice.Trouble(f"{bench.cell.name}: {bench.kind} isn't between {COARSE.start} and {COARSE.stop} ps")
+    if set(found) != set(PAIRS) or max(COARSE) + COARSE.step in found.values():
+        raise spice.Trouble(f"{bench.cell.name}: {bench.kind} isn't between {min(COARSE)} and {max(COARSE)} ps")
     for finer in FINER:
         asked = [(pair, found[pair] - offset) for pair in PAIRS for offset in range(finer, step, finer)]
         lower = {pair: time - step + finer for pair, time in found.items()}

@@ -1,5 +1,6 @@
 """Libraries as Liberty: functions and times against those of the cells, numbers by hand, and what OpenSTA, yosys and abc make of them."""
 
+import csv
 import itertools
 import re
 import shutil
@@ -103,6 +104,37 @@ def check_cells(results):
 def delays(group):
     """The first rows of the tables of delays of a timing group."""
     return [numbers(one.values["values"][0]) for one in group.groups if one.kind in ("cell_fall", "cell_rise")]
+
+
+def check_lines(results):
+    """The generics of the row library are the lines of least squares through its timing.csv at the two faster slopes: t and R solve the two
+    equations n t + R sum(C) = sum(d) and t sum(C) + R sum(C C) = sum(C d). An input with two edges to one edge of the output has the greater R."""
+    rows = list(csv.DictReader((CELLS / "timing.csv").open()))
+    loads = [float(word.removeprefix("delay ")) for word in rows[0] if word.startswith("delay ")]
+    slopes = sorted({float(row["slope"]) for row in rows})[:2]
+    measured = {}
+    for row in rows:
+        if float(row["slope"]) in slopes:
+            key = row["cell"], row["input"], row["goes"], row["output"], row["makes"]
+            measured.setdefault(key, []).extend((load, float(row[f"delay {load:g}"])) for load in loads)
+    models, drags = files.library(CELLS), {}
+    for (cell, pin, goes, output, makes), found in measured.items():
+        n, c, d = len(found), sum(load for load, _ in found), sum(delay for _, delay in found)
+        cc, cd = sum(load * load for load, _ in found), sum(load * delay for load, delay in found)
+        drag = (n * cd - c * d) / (n * cc - c * c)
+        word = f"{TIMES[goes, makes]}_{pin}_{output}"
+        is_near = abs(models[cell].generics[word] - max(0, (d - drag * c) / n)) < 1
+        results.note(f"{word} of {cell}", is_near, f"{models[cell].generics[word]} and {(d - drag * c) / n}")
+        key = cell, f"{DRAGS[makes]}_{pin}_{output}"
+        drags[key] = max(drags.get(key, 0), 1000 * drag)
+    for (cell, word), drag in drags.items():
+        results.note(f"{word} of {cell}", abs(models[cell].generics[word] - drag) < 3, f"{models[cell].generics[word]} and {drag}")
+    gates = {name for name, model in models.items() if model.is_plain and model.inputs}
+    results.note("all cells are measured", {cell for cell, *_ in measured} == gates, str(gates))
+
+
+TIMES = {("rise", "fall"): "tphl", ("fall", "fall"): "tpll", ("fall", "rise"): "tplh", ("rise", "rise"): "tphh"}
+DRAGS = {"fall": "rdown", "rise": "rup"}
 
 
 # ---- by hand
@@ -302,4 +334,4 @@ def check_abc(results):
 
 
 def jobs():
-    yield from ((check, ()) for check in (check_cells, check_by_hand, check_sta, check_yosys, check_abc))
+    yield from ((check, ()) for check in (check_cells, check_lines, check_by_hand, check_sta, check_yosys, check_abc))
