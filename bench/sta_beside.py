@@ -166,6 +166,7 @@ def main(words):
         with tempfile.TemporaryDirectory() as folder:
             time, area = rows_of(Work(pathlib.Path(words[0]).resolve(), library, folder), title, source)
             times.append(time)
+            print(time, area, sep="\n", file=sys.stderr, flush=True)
             areas.append(area)
     print("\n".join([*times, "", *areas]))
     return 0
