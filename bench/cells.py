@@ -24,6 +24,8 @@ from cell_maker.sizes import SIZES
 BENCH = pathlib.Path(__file__).resolve().parent
 FOLDER, NUMBERS = BENCH.parent / "cells", BENCH / "cell_numbers.csv"
 CLOCK, REGISTER = "ck", "ff"
+AROUND_CLOCK = ("tsr", "tsf", "thr", "thf")
+MEASURED = "timing.csv"  # which bench/characterise.sh writes
 SEEDS = 12  # that the search tries for each number of columns
 
 
@@ -98,8 +100,8 @@ def numbers():
 
 
 def generics(cell, measured):
-    """Names with their numbers: capacitances of the inputs, then for each arc its times and resistances."""
-    ends = {"cin": ""}
+    """Names with their numbers: capacitances of the inputs, for each arc its times and resistances, and setup and hold around the clock."""
+    ends = {"cin": "", **dict.fromkeys(AROUND_CLOCK, f"_{CLOCK}")}
     return [(f"{quantity}_{pin}{ends.get(quantity, '_' + cell.output())}", value) for pin, quantity, value in measured.get(cell.name, [])]
 
 
@@ -141,7 +143,7 @@ def library():
 
 def differences(files):
     """Names of files that are missing, differ, or are kept and not made; README.md where it lacks the table."""
-    kept = {path.name: path.read_text() for path in FOLDER.iterdir()}
+    kept = {path.name: path.read_text() for path in FOLDER.iterdir() if path.name != MEASURED}
     has_table = "\n".join(table()) in kept.pop("README.md", "")
     return sorted(name for name in {*files, *kept} if files.get(name) != kept.get(name)) + ([] if has_table else ["README.md"])
 

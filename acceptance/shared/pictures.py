@@ -1,4 +1,4 @@
-"""The programs of share/ over files alone: draw, sketch, states, stats, liberty, paths, and what all programs have in common."""
+"""The programs of share/ over files alone: draw, sketch, states, stats, paths, and what all programs have in common."""
 
 import itertools
 import os
@@ -12,7 +12,6 @@ from acceptance.running.places import CELLS, EXAMPLES, SHARE, TOP
 from share.formats import files, timing
 from share.formats.extraction import Flat, extracted
 from share.formats.state_walk import cycle
-from share.formats.vhdl_reader import spelled
 from share.formats.vst import netlist
 from share.formats.vst_writer import laid_out
 
@@ -118,50 +117,6 @@ def check_stats(results):
         results.note(f"the numbers of {name} as JSON", f'"cells": {sum(kinds.values())}' in out, out)
 
 
-def groups_of(text):
-    """The cells of a Liberty text: for each the texts of its pins by name."""
-    cells = {}
-    for name, body in re.findall(r"^  cell \((\w+)\) \{\n(.*?)^  \}\n", text, re.M | re.S):
-        cells[name] = dict(re.findall(r"^    pin \(([^)]+)\) \{\n(.*?)^    \}\n", body, re.M | re.S))
-    return cells
-
-
-def valued(function, values):
-    """A function of Liberty under values of its pins: `!` binds strongest, then `&`, `^`, `|`."""
-    text = re.sub(r"!", "~", function)
-    found = eval(text, {"__builtins__": {}}, values)  # noqa: S307: letters, signs and parentheses of our own
-    return found & 1
-
-
-def check_liberty(results):
-    """Functions over all vectors, and the greatest time of each arc at two of the loads of the tables."""
-    status, out, err = ran("liberty", CELLS)
-    cells, models = groups_of(out), files.library(CELLS)
-    loads = [int(load) for load in re.search(r'index_1 \("([^"]+)"\)', out)[1].split(", ")]
-    results.note("the cells that liberty writes", status == 0 and set(cells) == set(models), err)
-    for name, model in models.items():
-        output = model.outputs[0]
-        text = cells[name][spelled(output)]
-        function = re.search(r'function : "([^"]*)"', text)[1]
-        if model.registers:
-            results.note(f"the function of {name}", function == "IQ" and f'next_state : "{spelled(model.data())}"' in out, text)
-        else:
-            names = [spelled(pin) for pin in model.inputs]
-            table = tuple(valued(function, dict(zip(names, vector))) for vector in itertools.product((0, 1), repeat=len(names)))
-            results.note(f"the function of {name}", table == model.table(), function)
-        for pin in [model.clock] if model.registers else model.inputs:
-            check_arc(results, name, model, pin, output, text, loads)
-
-
-def check_arc(results, name, model, pin, output, text, loads):
-    groups = [group for group in re.findall(r"timing \(\) \{(.*?)^      \}", text, re.M | re.S) if f'related_pin : "{spelled(pin)}"' in group]
-    tables = [list(map(float, values.split(", "))) for group in groups for values in re.findall(r'values \("([^"]+)"\)', group)]
-    for k in (0, 5):
-        seen = max(round(1000 * table[k]) for table in tables) if tables else None
-        wanted = timing.arc_time(model.generics, pin, output, loads[k])
-        results.note(f"the time from {spelled(pin)} in {name} at the load {loads[k]}", seen == wanted, f"{seen} and {wanted}: {text}")
-
-
 def all_paths(n):
     """The time of each path of a small netlist, by walking back from each end."""
     arcs, first = dict(timing.steps(n, timing.own_cells(n))), set(timing.starts(n))
@@ -191,5 +146,5 @@ def check_paths(results):
 
 
 def jobs():
-    checks = check_words, check_draw, check_states, check_stats, check_liberty, check_paths
+    checks = check_words, check_draw, check_states, check_stats, check_paths
     yield from ((check, ()) for check in checks)

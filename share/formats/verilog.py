@@ -132,13 +132,18 @@ def label(name, taken, nets):
     return word(name)
 
 
-def module_of_netlist(n, names, from_zero):
-    """The netlist as a module, and behind it one for each cell. `names` gives the name of each net that no port has."""
+def module_of_netlist(n, names):
+    """A module of instances. `names` gives the name of each net that no port has."""
     named = {net: bit(net) if net in n.all_ports else names[net] for i in n.instances for net in i.nets.values()}
     used = {net for i in n.instances for pin, net in i.nets.items() if pin[0] not in SUPPLIES}
     lines = [f"  supply{value} {supply};\n" for supply, value in zip(SUPPLIES, (1, 0)) if (supply, -1) in used]
     lines += [f"  wire {named[net]};\n" for net in sorted(used, key=lambda net: named[net]) if net not in n.all_ports]
     taken = {name for name, _ in n.all_ports} | set(named.values()) | {i.name for i in n.instances}
     lines += [f"  {word(i.model.name)} {label(i.name, taken, named)} ({', '.join(pins_of(i, named))});\n" for i in n.instances]
+    return head(n.name, n.ports) + "".join(lines) + "endmodule\n"
+
+
+def modules_of_cells(n, from_zero):
+    """A module for each cell that the netlist has instances of."""
     cells = {i.model.name: i.model.machine for i in n.instances}
-    return head(n.name, n.ports) + "".join(lines) + "endmodule\n" + "".join(f"\n{module_of_machine(m, from_zero)}" for _, m in sorted(cells.items()))
+    return "".join(f"\n{module_of_machine(m, from_zero)}" for _, m in sorted(cells.items()))
