@@ -70,7 +70,7 @@ fn route_in_order(router: &mut Router, nets: &[NetPoints], order: &[u32]) -> Opt
     None
 }
 
-/// A router over a grid in which each net owns what is reserved for it, and none has a tree. Takes 22 bytes a node, and none for what
+/// A router over a grid in which each net owns what is reserved for it, and none has a tree. Takes 19 bytes a node, and none for what
 /// the router's later calls need.
 pub fn router_for(
     alloc: Global,
@@ -156,7 +156,7 @@ fn attempts(
 /// The routes of nets over a grid: by half perimeter, then by number, each by least paths from its first point on, beside the trees
 /// of those before it and what is reserved for others. A net's port and its terminals are its points; reserved for it are these and
 /// the nodes above its terminals. Refused exactly where a net gets stuck so. Which of several least paths is taken is free; where a net
-/// gets stuck, others are tried. Takes 22 bytes a node, and memory for the routes.
+/// gets stuck, others are tried. Takes 19 bytes a node, and memory for the routes.
 pub fn route_nets(alloc: Global, grid: Grid, nets: &[NetPoints]) -> Result<Routes, RouteError>
     requires few_nodes { nodes grid < 4294967295 }
     requires few { length nets.now < 4294967295 }

@@ -172,7 +172,7 @@ pub fn route_nets_by(
 /// net on it are torn out; then the stuck net goes on until it is whole, and then the first in the order that isn't. A net's port and its
 /// terminals are its points; reserved for it are these and the nodes above its terminals. Refused exactly where a net is stuck so and as
 /// many rips were made as are allowed, or no path leads there through all other trees either. Which of several least paths is taken is free;
-/// where all rips were made, others are tried, some with few rips; the last answer stands. Takes 22 bytes a node, and memory for the routes
+/// where all rips were made, others are tried, some with few rips; the last answer stands. Takes 19 bytes a node, and memory for the routes
 /// and the rips.
 pub fn route_nets_with_rips(
     alloc: Global,

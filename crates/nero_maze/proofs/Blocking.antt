@@ -16,10 +16,11 @@ use Rattle.nero_maze.specs.declared.board.Board.{Board}
 use Rattle.nero_maze.specs.Ways.{weight}
 use Rattle.nero_maze.specs.Search.{IsFree, IsOwn, LeadsTo}
 use Rattle.nero_maze.specs.Routing.{routes_of, Blocks}
-use Rattle.nero_maze.specs.Board.{moves_of, routing_of, IsSound}
+use Rattle.nero_maze.specs.Board.{moves_of, reserved_of, routing_of, IsSound}
 use Rattle.nero_maze.specs.Ripping.{AreFree, FirstTaken, NoWay, IsBlocked}
 use Rattle.nero_maze.proofs.Neighbours.{facts, move_of}
 use Rattle.nero_maze.proofs.Ties.{table, free_node, free_word, free_first, turned, IsKin}
+use Rattle.nero_maze.proofs.Reserving.{reserved_owner}
 use Rattle.nero_maze.proofs.Sounds.{from_map, forth_of, comes, no_path}
 
 -- ---- the nodes of a way
@@ -164,17 +165,17 @@ map_split f (a ∷ ahead) x behind = ap (λ (r : List Node). f a ∷ r) (map_spl
 -- ---- what a call answers
 
 -- the net's own nodes are reserved for no other
-pub reserved_kin : (b : Board) (net : ℕ) → IsSound b → IsKin b.reserved.items b.room.owners.items b.room.links.items net
-reserved_kin b net s v own = elim (cases_eq (slice_index b.reserved.items v) 4294967295) [
+pub reserved_kin : (b : Board) (net : ℕ) → IsSound b → IsKin (reserved_of b) b.room.owners.items b.room.links.items net
+reserved_kin b net s v own = elim (cases_eq (slice_index (reserved_of b) v) 4294967295) [
   | inl none ↦ inl none
-  | inr held ↦ inr (sym (s.fixed v held) ∙ own.1)
+  | inr held ↦ inr (sym (reserved_owner b.room.owners.items b.reserved.items v held) ∙ own.1)
 ]
 
 pub blocked : (b : Board) (net : ℕ) (q : Node) (other : ℕ) → IsSound b → IsInGrid b.room.grid q → IsBlocked b net (number b.room.grid q) other → Blocks (routing_of b) net q other
 blocked b net q other s hq h =
     let g = b.room.grid in
     let o = b.room.owners.items in
-    let f = b.reserved.items in
+    let f = reserved_of b in
     let target = number g q in
     let lt = number_below g q hq in
     let p = has_path b f net q s hq h.passable h.from h.back h.cost h.own h.leads in
@@ -226,9 +227,9 @@ no_way b net q s hq stuck free v back c own lead =
     let p = has_path b b.room.owners.items net q s hq free v back c own lead in stuck p.path p.leads
 
 pub closed_past : (b : Board) (net : ℕ) (q : Node) → IsSound b → IsInGrid b.room.grid q → (IsOwn b.room.owners.items b.room.links.items net (number b.room.grid q) → ⊥)
-    → NoWay b b.reserved.items net (number b.room.grid q) → (path : List Node)
-    → IsPath (owners.IsFree (table b.room.grid b.reserved.items) net) (tree_nodes (routes_of (moves_of b) net)) q path → ⊥
-closed_past b net q s hq outside none = no_path b b.reserved.items net q s (reserved_kin b net s) hq outside none
+    → NoWay b (reserved_of b) net (number b.room.grid q) → (path : List Node)
+    → IsPath (owners.IsFree (table b.room.grid (reserved_of b)) net) (tree_nodes (routes_of (moves_of b) net)) q path → ⊥
+closed_past b net q s hq outside none = no_path b (reserved_of b) net q s (reserved_kin b net s) hq outside none
 
 -- what a call answers, by what was found
 pub some_blocks : (b : Board) (net : ℕ) (q : Node) → IsSound b → IsInGrid b.room.grid q → (r : Option ℕ) → IfSome r (λ other. IsBlocked b net (number b.room.grid q) other)
@@ -238,7 +239,7 @@ some_blocks b net q s hq (Some other) h = blocked b net q other s hq h
 
 pub none_past : (b : Board) (net : ℕ) (q : Node) → IsSound b → IsInGrid b.room.grid q
     → ((path : List Node) → IsPath (owners.IsFree (table b.room.grid b.room.owners.items) net) (tree_nodes (routes_of (moves_of b) net)) q path → ⊥)
-    → (r : Option ℕ) → IfNone r (NoWay b b.reserved.items net (number b.room.grid q))
-    → IfNone r ((path : List Node) → IsPath (owners.IsFree (table b.room.grid b.reserved.items) net) (tree_nodes (routes_of (moves_of b) net)) q path → ⊥)
+    → (r : Option ℕ) → IfNone r (NoWay b (reserved_of b) net (number b.room.grid q))
+    → IfNone r ((path : List Node) → IsPath (owners.IsFree (table b.room.grid (reserved_of b)) net) (tree_nodes (routes_of (moves_of b) net)) q path → ⊥)
 none_past b net q s hq stuck None h = closed_past b net q s hq (not_own b net q s hq stuck) h
 none_past b net q s hq stuck (Some other) h = tt

@@ -8,10 +8,11 @@ mod Claiming
 mod Neighbours
 mod Ties
 mod Growth
+mod Reserving
 mod Telling
 mod Sounds
 mod Cutting
-mod Tearing
 mod Shortening
+mod Tearing
 mod Blocking
 mod Tracing

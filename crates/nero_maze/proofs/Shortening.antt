@@ -5,8 +5,9 @@ use Rattle.std.proofs.lemmas.Bool.{cases_eq}
 use Rattle.grid_core.specs.Numbers.{nodes}
 use Rattle.nero_maze.specs.declared.frontier.Room.{Room}
 use Rattle.nero_maze.specs.declared.frontier.Marked.{Marked}
-use Rattle.nero_maze.specs.Search.{IsRoom, Kept, zeros}
+use Rattle.nero_maze.specs.Search.{IsRoom, Kept, zeros, reserved_in}
 use Rattle.nero_maze.specs.Ripping.{IsOnPath, IsFreed, IsFreedAt, entries, stays, IsSifted, IsShorter}
+use Rattle.nero_maze.proofs.Reserving.{reserved_alike}
 
 -- ---- lists
 
@@ -300,20 +301,24 @@ on_same : (net : ℕ) (r r' : Room) (v : ℕ) → slice_index r'.owners.items v 
 on_same net r r' v eo el p = record { linked = λ z. p.linked (sym el ∙ z); joined = λ n. p.joined (sym el ∙ n); own = eo ∙ p.own }
 
 -- the next node is freed, or stays
-pub frees_next : (net : ℕ) (reserved : List ℕ) (old new after : Room) (i : ℕ) → i < nodes old.grid → Frees net reserved old new i → IsFreedAt net reserved i new after
-    → Frees net reserved old after (i + 1)
-frees_next net reserved old new after i lt h s =
+pub frees_next : (net : ℕ) (flags : List Bool) (old new after : Room) (i : ℕ) → i < nodes old.grid → IsRoom old → Frees net (reserved_in old.owners.items flags) old new i
+    → IsFreedAt net (reserved_in new.owners.items flags) i new after → Frees net (reserved_in old.owners.items flags) old after (i + 1)
+frees_next net flags old new after i lt room h s =
+    let reserved = reserved_in old.owners.items flags in
     let same = h.others i (λ low on. (let no : ⊥ = omega arith in no)) in
     elim (on_path net old i) [
       | inl on ↦ (
           let f = s.freed (on_same net old new i same.0 same.1 on) in
-          frees_on net reserved old new after i (slice_index reserved i) lt h on refl s.grid f.0 f.1)
+          let lt_o : i < length old.owners.items = (let e = room.owners in omega arith) in
+          let size : length new.owners.items ≡ length old.owners.items = (let x = h.room.owners in let y = room.owners in let z = ap nodes h.grid in omega arith) in
+          let word = reserved_alike old.owners.items new.owners.items flags i lt_o size same.0 in
+          frees_on net reserved old new after i (slice_index (reserved_in new.owners.items flags) i) lt h on (sym word) s.grid f.0 f.1)
       | inr off ↦ (
           let e = s.same (λ on. off (on_same net new old i (sym same.0) (sym same.1) on)) in
           subst (λ (r : Room). Frees net reserved old r (i + 1)) (sym e) (frees_off net reserved old new i h off))
     ]
 
-below_links : (l : List ℕ) (v : ℕ) → get_or l v 0 ≢ 0 → v < length l
+pub below_links : (l : List ℕ) (v : ℕ) → get_or l v 0 ≢ 0 → v < length l
 below_links [] v some = absurd (some refl)
 below_links (x ∷ xs) zero some = omega arith
 below_links (x ∷ xs) (suc v) some = let r = below_links xs v some in omega arith

@@ -1,5 +1,5 @@
 -- What a call leaves of the arrays is sound again, and what it did is the move that it promised.
-use Rattle.std.proofs.Common.{ℕ, ◌≡◌, ◌≢◌, ◌+◌, ◌<◌, ◌≤◌, ◌⊎◌, inl, inr, List, [], ◌∷◌, map, length, Option, Some, None, set, slice_index, arith, sym, ◌∙◌, ap, refl, subst, add-one, length-set, get_or-set_same, get_or-set_other}
+use Rattle.std.proofs.Common.{ℕ, Bool, true, false, ◌≡◌, ◌≢◌, ◌+◌, ◌<◌, ◌≤◌, ◌⊎◌, inl, inr, List, [], ◌∷◌, map, length, Option, Some, None, set, slice_index, arith, sym, ◌∙◌, ap, refl, subst, add-one, length-set, get_or-set_same, get_or-set_other}
 use Rattle.std.proofs.lemmas.Bool.{cases_eq, cases_lt}
 use Rattle.std.proofs.lemmas.List.{get_or_past}
 use Rattle.vlsi_base.specs.Member.{In, here, there}
@@ -14,15 +14,17 @@ use Rattle.grid_core.specs.Routes.{Tree, tree_nodes}
 use Rattle.grid_core.proofs.Numbers.{node_in_grid, number-node_of, node_of-number, number_below}
 use Rattle.grid_core.proofs.Owners.{first_or}
 use Rattle.nero_maze.specs.declared.board.Board.{Board}
-use Rattle.nero_maze.specs.Search.{IsRoom, IsFree, IsOwn, IsIdle, Kept}
+use Rattle.std.specs.Prelude.{slice_index_or}
+use Rattle.nero_maze.specs.Search.{IsRoom, IsFree, IsOwn, IsIdle, Kept, reserved_in}
 use Rattle.nero_maze.specs.Claims.{LeadsBack, Told, Changed}
 use Rattle.nero_maze.specs.Routing.{Move, Began, Joined, routes_of, IsPoint, Begins, Connects}
-use Rattle.nero_maze.specs.Board.{move_at, moves_in, moves_of, routing_of, AreBegun, HoldsTree, IsSound, Logs, Touches, Reaches, IsStuck}
+use Rattle.nero_maze.specs.Board.{move_at, moves_in, moves_of, routing_of, reserved_of, AreBegun, HoldTrees, IsSound, Logs, Touches, Reaches, IsStuck}
 use Rattle.nero_maze.specs.Ripping.{NoWay}
 use Rattle.nero_maze.proofs.Theory.{room, Kept-none}
 use Rattle.nero_maze.proofs.Claiming.{Told-more, changed_more}
 use Rattle.nero_maze.proofs.Neighbours.{facts}
 use Rattle.nero_maze.proofs.Ties.{table, owner_not, free_word, leads_nodes, leads_numbers, Comes, IsKin}
+use Rattle.nero_maze.proofs.Reserving.{reserved_same}
 use Rattle.nero_maze.proofs.Growth.{Grows, joined_grows, began_grows, follow_told, move_same, moves_same, points_known, test_other}
 
 -- ---- lists
@@ -41,6 +43,13 @@ decide v [] = inr (λ h. elim h [ ])
 decide v (x ∷ xs) = elim (cases_eq v x) [
   | inl e ↦ inl (subst (λ (w : ℕ). In v (w ∷ xs)) e here)
   | inr ne ↦ elim (decide v xs) [ inl h ↦ inl (there h) | inr out ↦ inr (λ h. elim (first_or v x xs h) [ inl e ↦ ne e | inr i ↦ out i ]) ]
+]
+
+-- what a net gets is no other net's own
+pub changed_own : (net : ℕ) (path o l o' l' : List ℕ) → Changed net path o l o' l' → (k v : ℕ) → k ≢ net → IsOwn o' l' k v → IsOwn o l k v
+changed_own net path o l o' l' h k v ne own = elim (decide v path) [
+  | inl i ↦ absurd (ne (sym own.1 ∙ (h.mine v i).0))
+  | inr out ↦ (let same = h.others v out in ((λ z. own.0 (same.1 ∙ z)), sym same.0 ∙ own.1))
 ]
 
 -- ---- one call
@@ -62,7 +71,22 @@ pub record Step (b b' : Board) (net target mark : ℕ) (path : List ℕ) (m : Mo
   pub reserved : b'.reserved ≡ b.reserved
   pub free : (v : ℕ) → In v path → IsFree b.room.owners.items net v
   pub rooted : (v : ℕ) → In v path → slice_index b.room.links.items v ≡ 0 → slice_index b'.room.links.items v ≡ 9 → (v ≡ target) × (mark ≡ 1)
-  pub holds : HoldsTree b'
+  pub holds : HoldTrees b'
+
+-- what is reserved stays
+pub step_reserved : (b b' : Board) (net target mark : ℕ) (path : List ℕ) (m : Move) → IsSound b → Step b b' net target mark path m → reserved_of b' ≡ reserved_of b
+step_reserved b b' net target mark path m s t =
+    let o = b.room.owners.items in
+    let o' = b'.room.owners.items in
+    let size : length o' ≡ length o = (let x = t.room.owners in let y = s.room.owners in let z = ap nodes t.grid in omega arith) in
+    ap (λ (r : List Bool). reserved_in o' r) (ap (λ r. r.items) t.reserved)
+    ∙ reserved_same o o' b.reserved.items size (λ v lt flag. elim (decide v path) [
+      | inr out ↦ (t.changed.others v out).0
+      | inl i ↦ elim (t.free v i) [
+        | inl nobody ↦ absurd (s.flagged v flag nobody)
+        | inr mine ↦ (t.changed.mine v i).0 ∙ sym mine
+      ]
+    ])
 
 pub moves_step : (b b' : Board) (net target mark : ℕ) (path : List ℕ) (m : Move) → IsSound b → Step b b' net target mark path m
     → moves_in b.room.grid b'.room.owners.items b'.room.links.items b'.log.marks.items b'.log.order.items b'.log.count ≡ m ∷ moves_of b
@@ -179,17 +203,12 @@ sound_step b b' net target mark path m s t =
       back = subst (λ (h : Grid). (k : ℕ) (q : Node) → In q (tree_nodes (routes_of (moves_of b') k)) → IsInGrid h q × IsOwn o' l' k (number h q)) (sym t.grid) back;
       begun = subst (λ (ns : List Move). AreBegun ns) (sym whole) t.begun;
       sized = rw (t.reserved, t.grid) s.sized;
-      fixed = subst (λ (r : List ℕ). (v : ℕ) → slice_index r v ≢ 4294967295 → slice_index o' v ≡ slice_index r v) (ap (λ r. r.items) (sym t.reserved)) (λ v fixed.
+      flagged = subst (λ (r : List Bool). (v : ℕ) → slice_index_or r v false ≡ true → slice_index o' v ≢ 4294967295) (ap (λ r. r.items) (sym t.reserved)) (λ v flag.
           elim (decide v path) [
-            | inr out ↦ (t.changed.others v out).0 ∙ s.fixed v fixed
-            | inl i ↦ (
-                let held = s.fixed v fixed in
-                elim (t.free v i) [
-                  | inl nobody ↦ absurd (fixed (sym held ∙ nobody))
-                  | inr mine ↦ (t.changed.mine v i).0 ∙ (sym mine ∙ held)
-                ])
+            | inr out ↦ (let same = (t.changed.others v out).0 in λ e. s.flagged v flag (sym same ∙ e))
+            | inl i ↦ (let mine = (t.changed.mine v i).0 in λ e. t.small (sym mine ∙ e))
           ]);
-      untaken = subst (λ (r : List ℕ). (v : ℕ) → slice_index l' v ≡ 0 → slice_index o' v ≡ slice_index r v) (ap (λ r. r.items) (sym t.reserved)) (λ v z.
+      untaken = subst (λ (r : List ℕ). (v : ℕ) → slice_index l' v ≡ 0 → slice_index o' v ≡ slice_index r v) (sym (step_reserved b b' net target mark path m s t)) (λ v z.
           elim (decide v path) [
             | inl i ↦ absurd ((t.changed.mine v i).1 z)
             | inr out ↦ (let same = t.changed.others v out in same.0 ∙ s.untaken v (sym same.1 ∙ z))
@@ -229,9 +248,10 @@ taken g g' net path o l o' l' eg small h =
     }
 
 -- ---- begin
-pub sound_bare : (b : Board) → b.room.owners.items ≡ b.reserved.items → IsRoom b.room → IsIdle b.frontier.order.items b.frontier.marks.items (nodes b.room.grid) → IsIdle b.log.order.items b.log.marks.items (nodes b.room.grid) → b.log.count ≡ 0
+pub sound_bare : (b : Board) → reserved_of b ≡ b.room.owners.items → length b.reserved.items ≡ nodes b.room.grid
+    → ((v : ℕ) → slice_index_or b.reserved.items v false ≡ true → slice_index b.room.owners.items v ≢ 4294967295) → IsRoom b.room → IsIdle b.frontier.order.items b.frontier.marks.items (nodes b.room.grid) → IsIdle b.log.order.items b.log.marks.items (nodes b.room.grid) → b.log.count ≡ 0
     → ((v : ℕ) → slice_index b.room.links.items v ≡ 0) → IsSound b × (moves_of b ≡ [])
-sound_bare b same room idle log count unlinked =
+sound_bare b same sized flagged room idle log count unlinked =
     let none : moves_of b ≡ [] = rw count refl in
     let empty : Kept b.log.order.items b.log.marks.items 0 = Kept-none b.log.order.items b.log.marks.items (log.places ∙ sym log.size) log.clear in (
       record {
@@ -245,11 +265,11 @@ sound_bare b same room idle log count unlinked =
         forth = λ v lt nz. absurd (nz (unlinked v));
         back = λ k q h. (let h' = rw none at h in elim h' [ ]);
         begun = rw none tt;
-        sized = ap (λ (xs : List ℕ). length xs) (sym same) ∙ room.owners;
-        fixed = λ v fixed. ap (λ (xs : List ℕ). slice_index xs v) same;
-        untaken = λ v z. ap (λ (xs : List ℕ). slice_index xs v) same;
+        sized = sized;
+        flagged = flagged;
+        untaken = λ v z. ap (λ (xs : List ℕ). slice_index xs v) (sym same);
         rooted = λ v nine. (let z = unlinked v in let no : ⊥ = omega arith in absurd no);
-        holds = λ v own. absurd (own.0 (unlinked v));
+        holds = λ k hull is v own. absurd (own.0 (unlinked v));
       },
       none,
     )
@@ -286,7 +306,7 @@ pub seated : (b b' : Board) (net : ℕ) (q : Node) → IsSound b → net ≢ 429
     → owners.IsFree (table b.room.grid b.room.owners.items) net q
     → b'.room.grid ≡ b.room.grid → b'.room.owners.items ≡ set b.room.owners.items (number b.room.grid q) net
     → b'.room.links.items ≡ set b.room.links.items (number b.room.grid q) 9 → Logs (number b.room.grid q) 1 b.log b'.log → b'.frontier ≡ b.frontier → b'.reserved ≡ b.reserved
-    → HoldsTree b' → IsSound b' × Begins net q (routing_of b) (routing_of b')
+    → HoldTrees b' → IsSound b' × Begins net q (routing_of b) (routing_of b')
 seated b b' net q s small none free eg eo el log idle er holds =
     let g = b.room.grid in
     let o = b.room.owners.items in
@@ -329,7 +349,8 @@ seated b b' net q s small none free eg eo el log idle er holds =
       holds = holds;
     } in
     let own_all = taken g b'.room.grid net (v ∷ []) o l b'.room.owners.items b'.room.links.items eg small changed in
-    (sound_step b b' net v 1 (v ∷ []) m s t, record { moves = rw eg (moves_step b b' net v 1 (v ∷ []) m s t); taken = rw at at own_all; reserved = rw (eg, er) refl })
+    let kept = ap (λ (k : Grid). table k (reserved_of b')) eg ∙ ap (table g) (step_reserved b b' net v 1 (v ∷ []) m s t) in
+    (sound_step b b' net v 1 (v ∷ []) m s t, record { moves = rw eg (moves_step b b' net v 1 (v ∷ []) m s t); taken = rw at at own_all; reserved = kept })
 
 -- ---- connect
 -- a net whose tree has begun is a number below the one that says that there is none
@@ -366,7 +387,7 @@ forth_of b net s v lt own = subst (λ (k : ℕ). In (node_of b.room.grid v) (tre
 
 pub touched : (b b' : Board) (net c : ℕ) (q : Node) (t : Tree) → IsSound b → routes_of (moves_of b) net ≡ Some t → IsInGrid b.room.grid q
     → slice_index b.log.marks.items (number b.room.grid q) ≡ 0 → IsIdle b'.frontier.order.items b'.frontier.marks.items (nodes b.room.grid) → b'.reserved ≡ b.reserved → Touches net (number b.room.grid q) c b b'
-    → HoldsTree b' → IsSound b' × Connects net q c (routing_of b) (routing_of b') (q ∷ [])
+    → HoldTrees b' → IsSound b' × Connects net q c (routing_of b) (routing_of b') (q ∷ [])
 touched b b' net c q tree s begun hq fresh idle er h holds =
     let g = b.room.grid in
     let o = b.room.owners.items in
@@ -416,7 +437,7 @@ touched b b' net c q tree s begun hq fresh idle er h holds =
         costs = sym h.nothing;
         moves = rw eg (moves_step b b' net v 2 (v ∷ []) m s t);
         taken = rw at at own_all;
-        reserved = rw (eg, er) refl;
+        reserved = ap (λ (k : Grid). table k (reserved_of b')) eg ∙ ap (table g) (step_reserved b b' net v 2 (v ∷ []) m s t);
       },
     )
 
@@ -473,7 +494,7 @@ told_joins g o l l' net q (p ∷ r ∷ rest) c (k, k4, link, is, told) (free, (w
 
 pub reached : (b b' : Board) (net c : ℕ) (q : Node) (t : Tree) → IsSound b → routes_of (moves_of b) net ≡ Some t → IsInGrid b.room.grid q
     → slice_index b.log.marks.items (number b.room.grid q) ≡ 0 → IsIdle b'.frontier.order.items b'.frontier.marks.items (nodes b.room.grid) → b'.reserved ≡ b.reserved → Reaches net (number b.room.grid q) c b b'
-    → HoldsTree b' → IsSound b' × ((path : List Node) × Connects net q c (routing_of b) (routing_of b') path)
+    → HoldTrees b' → IsSound b' × ((path : List Node) × Connects net q c (routing_of b) (routing_of b') path)
 reached b b' net c q tree s begun hq fresh idle er h holds =
     let g = b.room.grid in
     let o = b.room.owners.items in
@@ -528,7 +549,7 @@ reached b b' net c q tree s begun hq fresh idle er h holds =
           costs = lead.1;
           moves = rw claimed.grid (moves_step b b' net v 1 (v ∷ rest) m s t);
           taken = own_all;
-          reserved = rw (claimed.grid, er) refl;
+          reserved = ap (λ (k : Grid). table k (reserved_of b')) claimed.grid ∙ ap (table g) (step_reserved b b' net v 1 (v ∷ rest) m s t);
         },
       ),
     )
@@ -544,7 +565,7 @@ stuck b b' net q s hq h = no_path b b.room.owners.items net q s (own_kin b.room.
 
 -- nothing changed
 pub sound_same : (b b' : Board) → IsSound b → IsIdle b'.frontier.order.items b'.frontier.marks.items (nodes b.room.grid) → b'.reserved ≡ b.reserved → b'.room ≡ b.room
-    → b'.log ≡ b.log → HoldsTree b' → IsSound b' × (routing_of b' ≡ routing_of b)
+    → b'.log ≡ b.log → HoldTrees b' → IsSound b' × (routing_of b' ≡ routing_of b)
 sound_same b b' s idle ef er el holds = (
   record {
     room = rw er s.room;
@@ -558,7 +579,7 @@ sound_same b b' s idle ef er el holds = (
     back = rw (er, el) s.back;
     begun = rw (er, el) s.begun;
     sized = rw (ef, er) s.sized;
-    fixed = rw (ef, er) s.fixed;
+    flagged = rw (ef, er) s.flagged;
     untaken = rw (ef, er) s.untaken;
     rooted = rw (er, el) s.rooted;
     holds = holds;
@@ -586,7 +607,7 @@ some_tree (Some t) ne = (t, refl)
 pub connected : (b b' : Board) (net c : ℕ) (q : Node) → IsSound b → routes_of (moves_of b) net ≢ None → IsInGrid b.room.grid q
     → (IsPoint (routes_of (moves_of b) net) q → ⊥) → IsIdle b'.frontier.order.items b'.frontier.marks.items (nodes b.room.grid) → b'.reserved ≡ b.reserved
     → Touches net (number b.room.grid q) c b b' ⊎ Reaches net (number b.room.grid q) c b b'
-    → HoldsTree b' → IsSound b' × ((path : List Node) × Connects net q c (routing_of b) (routing_of b') path)
+    → HoldTrees b' → IsSound b' × ((path : List Node) × Connects net q c (routing_of b) (routing_of b') path)
 connected b b' net c q s begun hq new idle er (inl h) holds =
     let (t, is) = some_tree (routes_of (moves_of b) net) begun in
     let z = unmarked_own b net (number b.room.grid q) (unlogged b net q s hq new) h.own.1 in

@@ -1,5 +1,5 @@
 -- A net's paths are taken out of the arrays.
-use Rattle.std.proofs.Common.{ℕ, zero, suc, ◌≡◌, ◌≢◌, ◌<◌, ◌≤◌, ◌⊎◌, inl, inr, List, [], ◌∷◌, map, length, Bool, true, false, Option, Some, None, slice_index, arith, sym, ◌∙◌, ap, refl, subst, nat_eq}
+use Rattle.std.proofs.Common.{ℕ, zero, suc, ◌≡◌, ◌≢◌, ◌<◌, ◌≤◌, ◌⊎◌, inl, inr, List, [], ◌∷◌, map, length, set, Bool, true, false, Option, Some, None, slice_index, arith, sym, ◌∙◌, ap, refl, subst, nat_eq}
 use Rattle.std.specs.Prelude.{filter, cond}
 use Rattle.std.proofs.lemmas.Bool.{cases_eq, eq-eqb}
 use Rattle.vlsi_base.specs.Member.{In, here, there}
@@ -13,13 +13,21 @@ use Rattle.grid_core.proofs.Numbers.{number-node_of, node_of-number, number_belo
 use Rattle.grid_core.proofs.Owners.{first_or}
 use Rattle.nero_maze.specs.declared.board.Board.{Board}
 use Rattle.nero_maze.specs.declared.frontier.Frontier.{Frontier}
-use Rattle.nero_maze.specs.Search.{IsOwn, IsIdle}
+use Rattle.nero_maze.specs.declared.frontier.Marked.{Marked}
+use Rattle.nero_maze.specs.declared.frontier.Room.{Room}
+use Rattle.nero_maze.specs.declared.hull.Hull.{Hull}
+use Rattle.nero_maze.specs.Hulls.{far, Holds, AreHulls}
+use Rattle.std.specs.Prelude.{slice_index_or}
+use Rattle.nero_maze.specs.Search.{IsOwn, IsIdle, reserved_in}
 use Rattle.nero_maze.specs.Claims.{Told}
 use Rattle.nero_maze.specs.Routing.{Move, Began, Joined, routes_of, first_alone, TakesOut}
-use Rattle.nero_maze.specs.Board.{follow, move_at, moves_in, moves_of, routing_of, AreBegun, IsSound}
-use Rattle.nero_maze.specs.Ripping.{IsOnPath, entries, stays, IsTorn}
+use Rattle.nero_maze.specs.Board.{follow, move_at, moves_in, moves_of, reserved_of, routing_of, AreBegun, HoldTrees, IsSound}
+use Rattle.nero_maze.specs.Ripping.{IsOnPath, IsFreed, IsShorter, entries, stays, IsTorn}
+use Rattle.nero_maze.proofs.Holding.{hulls_with}
 use Rattle.nero_maze.proofs.Growth.{follow_told, test_other}
 use Rattle.nero_maze.proofs.Ties.{table}
+use Rattle.nero_maze.proofs.Reserving.{reserved_same, reserved_flagged}
+use Rattle.nero_maze.proofs.Shortening.{below_links}
 use Rattle.nero_maze.proofs.Sounds.{in_map, some_tree}
 use Rattle.nero_maze.proofs.Cutting.{keeps, Cut, cut, path_known, start_known, began_known}
 
@@ -66,6 +74,37 @@ filter_moves f f' st net (v ∷ vs) same kept = by (st v) refl (filter_moves f f
     by false e rest =
         let k = same v here ∙ e in
         rw (e, k) rest
+
+-- ---- the hulls
+torn_own : (net : ℕ) (reserved : List ℕ) (old new : Room) → IsFreed net reserved old new → (k v : ℕ) → IsOwn new.owners.items new.links.items k v
+    → (IsOnPath net old v → ⊥) × IsOwn old.owners.items old.links.items k v
+torn_own net reserved old new h k v own =
+    let off : IsOnPath net old v → ⊥ = λ p. own.0 (h.freed v p).1 in
+    let kept = h.others v off in
+    (off, ((λ z. own.0 (kept.1 ∙ z)), sym kept.0 ∙ own.1))
+
+pub torn_hulls : (b : Board) (net : ℕ) → IsSound b → (room : Room) (log : Marked) → IsFreed net (reserved_of b) b.room room → IsShorter net b.room b.log log
+    → (hull : Hull) → ((i : ℕ) → i < log.count → IsOwn room.owners.items room.links.items net (slice_index log.order.items i)
+    → far room.grid hull (slice_index log.order.items i) ≡ 0)
+    → AreHulls room.grid (set b.hulls.items net hull) room.owners.items room.links.items
+torn_hulls b net s room log freed short hull held =
+    let o = b.room.owners.items in
+    let l = b.room.links.items in
+    let old : AreHulls room.grid b.hulls.items o l = subst (λ (g : Grid). AreHulls g b.hulls.items o l) (sym freed.grid) s.holds in
+    let own : Holds room.grid hull room.owners.items room.links.items net = λ v mine.
+    let (off, was) = torn_own net (reserved_of b) b.room room freed net v mine in
+    let nine : slice_index l v ≡ 9 = elim (cases_eq (slice_index l v) 9) [
+      | inl e ↦ e
+      | inr joined ↦ absurd (off (record { linked = was.0; joined = joined; own = was.1 }))
+    ] in
+    let stays_is : stays net b.room v ≡ true = rw (eq-eqb (slice_index o v) net was.1, eq-eqb (slice_index l v) 9 nine) refl in
+    let mark = short.same v stays_is ∙ s.rooted v nine in
+    let some : slice_index log.marks.items v ≢ 0 = omega arith in
+    let (i, lt, at) = short.kept.found v some in
+    subst (λ (w : ℕ). far room.grid hull w ≡ 0) at
+    (held i lt (subst (λ (w : ℕ). IsOwn room.owners.items room.links.items net w) (sym at) mine)) in
+    hulls_with room.grid b.hulls.items hull o l room.owners.items room.links.items net old own
+    (λ k v ne mine. (torn_own net (reserved_of b) b.room room freed k v mine).1)
 
 -- ---- one net is torn out
 module _ (b b' : Board) (net : ℕ) (s : IsSound b) (h : IsTorn net b b') where
@@ -317,8 +356,17 @@ module _ (b b' : Board) (net : ℕ) (s : IsSound b) (h : IsTorn net b b') where
         (r.0, ((λ z. r.1.0 (sym kept.1 ∙ z)), kept.0 ∙ (r.1.1 ∙ sym e))))
   ]
 
-  pub torn_sound : routes_of (moves_of b) net ≢ None → IsSound b'
-  torn_sound some_now =
+  torn_reserved : reserved_of b' ≡ reserved_of b
+  torn_reserved =
+      let size : length o' ≡ length o = (let x = h.freed.room.owners in let y = s.room.owners in let z = ap nodes h.freed.grid in omega arith) in
+      ap (λ (r : List Bool). reserved_in o' r) (ap (λ r. r.items) h.reserved)
+      ∙ reserved_same o o' b.reserved.items size (λ v lt flag. elim (on_path v) [
+        | inl p ↦ (h.freed.freed v p).0 ∙ reserved_flagged o b.reserved.items v lt flag
+        | inr off ↦ (h.freed.others v off).0
+      ])
+
+  pub torn_sound : routes_of (moves_of b) net ≢ None → HoldTrees b' → IsSound b'
+  torn_sound some_now holds =
       let (t, is) = some_tree (routes_of (moves_of b) net) some_now in
       let eg = h.freed.grid in
       let er : b'.reserved.items ≡ b.reserved.items = ap (λ r. r.items) h.reserved in
@@ -353,10 +401,16 @@ module _ (b b' : Board) (net : ℕ) (s : IsSound b) (h : IsTorn net b b') where
         forth = subst (λ (k : Grid). (v : ℕ) → v < nodes k → slice_index l' v ≢ 0 → In (node_of k v) (tree_nodes (routes_of (moves_of b') (slice_index o' v)))) (sym eg) (forth' t is);
         back = subst (λ (k : Grid). (j : ℕ) (q : Node) → In q (tree_nodes (routes_of (moves_of b') j)) → IsInGrid k q × IsOwn o' l' j (number k q)) (sym eg) (back' t is);
         begun = subst (λ (xs : List Move). AreBegun xs) (sym left_moves) cut_all.begun;
-        sized = ap (λ (xs : List ℕ). length xs) er ∙ (s.sized ∙ ap nodes (sym eg));
-        fixed = subst (λ (r : List ℕ). (v : ℕ) → slice_index r v ≢ 4294967295 → slice_index o' v ≡ slice_index r v) (sym er) (λ v fixed.
-            elim (on_path v) [ inl p ↦ (h.freed.freed v p).0 | inr off ↦ (h.freed.others v off).0 ∙ s.fixed v fixed ]);
-        untaken = subst (λ (r : List ℕ). (v : ℕ) → slice_index l' v ≡ 0 → slice_index o' v ≡ slice_index r v) (sym er) (λ v z.
+        sized = ap (λ (xs : List Bool). length xs) er ∙ (s.sized ∙ ap nodes (sym eg));
+        flagged = subst (λ (r : List Bool). (v : ℕ) → slice_index_or r v false ≡ true → slice_index o' v ≢ 4294967295) (sym er) (λ v flag.
+            elim (on_path v) [
+              | inr off ↦ (let same = (h.freed.others v off).0 in λ e. s.flagged v flag (sym same ∙ e))
+              | inl p ↦ (
+                  let lt : v < length o = (let below = below_links l v p.linked in let x = s.room.owners in let y = s.room.links in omega arith) in
+                  let same = (h.freed.freed v p).0 ∙ reserved_flagged o b.reserved.items v lt flag in
+                  λ e. s.flagged v flag (sym same ∙ e))
+            ]);
+        untaken = subst (λ (r : List ℕ). (v : ℕ) → slice_index l' v ≡ 0 → slice_index o' v ≡ slice_index r v) (sym torn_reserved) (λ v z.
             elim (on_path v) [
               | inl p ↦ (h.freed.freed v p).0
               | inr off ↦ (let kept = h.freed.others v off in kept.0 ∙ s.untaken v (sym kept.1 ∙ z))
@@ -366,9 +420,7 @@ module _ (b b' : Board) (net : ℕ) (s : IsSound b) (h : IsTorn net b b') where
             let kept = h.freed.others v (linked_off v some) in
             let was : slice_index l v ≡ 9 = sym kept.1 ∙ nine in
             h.log.same v (stays_root v was) ∙ s.rooted v was;
-        holds = λ v own.
-            let kept = h.freed.others v (linked_off v own.0) in
-            absurd (s.owned v (λ z. own.0 (kept.1 ∙ z)) (sym kept.0 ∙ (own.1 ∙ h.held)));
+        holds = holds;
       }
 
   pub taken_out : routes_of (moves_of b) net ≢ None → TakesOut net (routing_of b) (routing_of b')
@@ -404,5 +456,5 @@ module _ (b b' : Board) (net : ℕ) (s : IsSound b) (h : IsTorn net b b') where
                   let new = keep (subst (λ (n : Node). In n (tree_nodes (routes_of (moves_of b) net))) at old) in
                   absurd ((back' t is net p new).1.0 (h.freed.freed v on).1))
             ];
-        reserved = ap (λ (k : Grid). table k b'.reserved.items) eg ∙ ap (λ (xs : List ℕ). table g xs) (ap (λ r. r.items) h.reserved);
+        reserved = ap (λ (k : Grid). table k (reserved_of b')) eg ∙ ap (λ (xs : List ℕ). table g xs) torn_reserved;
       }

@@ -1,5 +1,5 @@
 -- What the arrays of a router say, and what is true of them.
-use Rattle.std.specs.Prelude.{ℕ, zero, suc, ◌≡◌, ◌≢◌, ◌+◌, ◌-◌, ◌<◌, ◌≤◌, List, [], ◌∷◌, map, length, Option, None, Some, cond, nat_eq, nat_lt, slice_index, slice_set}
+use Rattle.std.specs.Prelude.{ℕ, zero, suc, ◌≡◌, ◌≢◌, ◌+◌, ◌-◌, ◌<◌, ◌≤◌, List, [], ◌∷◌, map, length, Option, None, Some, true, false, cond, nat_eq, nat_lt, slice_index, slice_index_or, slice_set}
 use Rattle.vlsi_base.specs.Member.{In}
 use Rattle.grid_core.specs.declared.grid.Grid.{Grid}
 use Rattle.grid_core.specs.declared.grid.Node.{Node}
@@ -9,8 +9,8 @@ use Rattle.grid_core.specs.Routes.{Tree, tree_nodes}
 use Rattle.nero_maze.specs.declared.board.Board.{Board}
 use Rattle.nero_maze.specs.declared.frontier.Marked.{Marked}
 use Rattle.nero_maze.specs.Ways.{next}
-use Rattle.nero_maze.specs.Search.{IsRoom, IsFree, IsOwn, IsIdle, Kept, LeadsTo, NoneBelow}
-use Rattle.nero_maze.specs.Hulls.{Holds}
+use Rattle.nero_maze.specs.Search.{IsRoom, IsFree, IsOwn, IsIdle, Kept, LeadsTo, NoneBelow, reserved_in}
+use Rattle.nero_maze.specs.Hulls.{AreHulls}
 use Rattle.nero_maze.specs.Claims.{Told, Claimed}
 use Rattle.nero_maze.specs.Routing.{Move, Began, Joined, routes_of, Routing}
 
@@ -42,11 +42,15 @@ moves_in g owners links marks order (suc n) = move_at g owners links marks (slic
 abbrev pub moves_of : Board → List Move
 moves_of b = moves_in b.room.grid b.room.owners.items b.room.links.items b.log.marks.items b.log.order.items b.log.count
 
+-- for whom each node is reserved
+abbrev pub reserved_of : Board → List ℕ
+reserved_of b = reserved_in b.room.owners.items b.reserved.items
+
 abbrev pub routing_of : Board → Routing
 routing_of b = record {
   occupied = record { grid = b.room.grid; words = b.room.owners.items };
   moves = moves_of b;
-  reserved = record { grid = b.room.grid; words = b.reserved.items };
+  reserved = record { grid = b.room.grid; words = reserved_of b };
 }
 
 -- a tree begins where there is none, and paths join one that has begun
@@ -55,9 +59,9 @@ AreBegun [] = Unit {0}
 AreBegun (Began k q ∷ before) = (routes_of before k ≡ None) × AreBegun before
 AreBegun (Joined k path ∷ before) = ((t : Tree) × (routes_of before k ≡ Some t)) × AreBegun before
 
--- the hull holds the tree of its net
-abbrev pub HoldsTree : Board → Type 0
-HoldsTree b = Holds b.room.grid b.hull b.room.owners.items b.room.links.items b.held
+-- each hull holds the tree of its net
+abbrev pub HoldTrees : Board → Type 0
+HoldTrees b = AreHulls b.room.grid b.hulls.items b.room.owners.items b.room.links.items
 
 -- what is true of the arrays between two calls
 pub record IsSound (b : Board) : Type 0 where
@@ -75,10 +79,10 @@ pub record IsSound (b : Board) : Type 0 where
       → IsInGrid b.room.grid q × IsOwn b.room.owners.items b.room.links.items k (number b.room.grid q)
   pub begun : AreBegun (moves_of b)
   pub sized : length b.reserved.items ≡ nodes b.room.grid
-  pub fixed : (v : ℕ) → slice_index b.reserved.items v ≢ 4294967295 → slice_index b.room.owners.items v ≡ slice_index b.reserved.items v
-  pub untaken : (v : ℕ) → slice_index b.room.links.items v ≡ 0 → slice_index b.room.owners.items v ≡ slice_index b.reserved.items v
+  pub flagged : (v : ℕ) → slice_index_or b.reserved.items v false ≡ true → slice_index b.room.owners.items v ≢ 4294967295
+  pub untaken : (v : ℕ) → slice_index b.room.links.items v ≡ 0 → slice_index b.room.owners.items v ≡ slice_index (reserved_of b) v
   pub rooted : (v : ℕ) → slice_index b.room.links.items v ≡ 9 → slice_index b.log.marks.items v ≡ 1
-  pub holds : HoldsTree b
+  pub holds : HoldTrees b
 
 -- the log got one node more
 pub record Logs (v mark : ℕ) (old new : Marked) : Type 0 where

@@ -5,6 +5,7 @@ use Rattle.nero_maze.specs.declared.board.Board.{Board}
 use Rattle.nero_maze.specs.declared.frontier.Marked.{Marked}
 use Rattle.nero_maze.specs.declared.frontier.Room.{Room}
 use Rattle.nero_maze.specs.Search.{IsRoom, IsFree, IsOwn, Kept, LeadsTo, NoneBelow}
+use Rattle.nero_maze.specs.Board.{reserved_of}
 
 -- ---- a net without its paths
 
@@ -55,11 +56,10 @@ pub record IsShorter (net : ℕ) (r : Room) (old new : Marked) : Type 0 where
   pub entries : entries new.order.items new.count ≡ filter (stays net r) (entries old.order.items old.count)
 
 pub record IsTorn (net : ℕ) (old new : Board) : Type 0 where
-  pub freed : IsFreed net old.reserved.items old.room new.room
+  pub freed : IsFreed net (reserved_of old) old.room new.room
   pub log : IsShorter net old.room old.log new.log
   pub frontier : new.frontier ≡ old.frontier
   pub reserved : new.reserved ≡ old.reserved
-  pub held : new.held ≡ 4294967295
 
 -- ---- what stands in a way
 
@@ -81,12 +81,12 @@ NoWay b words net target =
 
 -- one leads there through the trees of other nets, and none is cheaper; another net's tree has the first node on it that isn't free
 pub record IsBlocked (b : Board) (net target other : ℕ) : Type 0 where
-  pub passable : IsFree b.reserved.items net target
+  pub passable : IsFree (reserved_of b) net target
   pub from : ℕ
   pub back : List ℕ
   pub cost : ℕ
   pub within : from < nodes b.room.grid
   pub own : IsOwn b.room.owners.items b.room.links.items net from
-  pub leads : LeadsTo b.room.grid b.reserved.items net target from back cost
-  pub least : (v : ℕ) → IsOwn b.room.owners.items b.room.links.items net v → NoneBelow b.room.grid b.reserved.items net target v cost
+  pub leads : LeadsTo b.room.grid (reserved_of b) net target from back cost
+  pub least : (v : ℕ) → IsOwn b.room.owners.items b.room.links.items net v → NoneBelow b.room.grid (reserved_of b) net target v cost
   pub taken : FirstTaken b.room.owners.items net other (from ∷ back)

@@ -1,10 +1,27 @@
 -- What a search by levels knows of the nodes that it has reached.
-use Rattle.std.specs.Prelude.{ℕ, zero, suc, ◌≡◌, ◌≢◌, ◌+◌, ◌<◌, ◌≤◌, ◌⊎◌, List, [], ◌∷◌, length, Some, slice_index}
+use Rattle.std.specs.Prelude.{ℕ, zero, suc, ◌≡◌, ◌≢◌, ◌+◌, ◌<◌, ◌≤◌, ◌⊎◌, Bool, List, [], ◌∷◌, cond, length, not, Some, nat_eq, slice_index}
 use Rattle.grid_core.specs.declared.grid.Grid.{Grid}
 use Rattle.grid_core.specs.Numbers.{nodes}
 use Rattle.nero_maze.specs.declared.frontier.Field.{Field}
 use Rattle.nero_maze.specs.declared.frontier.Room.{Room}
+use Rattle.nero_maze.specs.declared.frontier.Words.{Words}
 use Rattle.nero_maze.specs.Ways.{weight, opposite, next}
+
+-- ---- for whom nodes are free
+
+-- whether a node with this word has an owner
+abbrev pub is_owned : ℕ → Bool
+is_owned word = not (nat_eq word 4294967295)
+
+-- for whom nodes are reserved: flagged ones for their owner, and others for nobody
+unfoldable pub reserved_in : List ℕ → List Bool → List ℕ
+reserved_in [] flags = []
+reserved_in (word ∷ owners) [] = 4294967295 ∷ reserved_in owners []
+reserved_in (word ∷ owners) (flag ∷ flags) = cond flag word 4294967295 ∷ reserved_in owners flags
+
+-- the owners, or where a search leads past trees, those for whom nodes are reserved
+abbrev pub words_in : Words → List ℕ
+words_in w = cond w.past (reserved_in w.owners.now.items w.reserved.now.items) w.owners.now.items
 
 -- free for the net: without an owner, or the net's own
 abbrev pub IsFree : List ℕ → ℕ → ℕ → Type 0
@@ -83,10 +100,15 @@ pub record IsRoom (r : Room) : Type 0 where
   pub owners : length r.owners.items ≡ nodes r.grid
   pub links : length r.links.items ≡ nodes r.grid
 
--- there are few nodes, and a word for each
+-- there is an owner and a flag for each of n nodes
+pub record AreWords (w : Words) (n : ℕ) : Type 0 where
+  pub owners : length w.owners.now.items ≡ n
+  pub flags : length w.reserved.now.items ≡ n
+
+-- there are few nodes, and words for each
 pub record IsField (f : Field) : Type 0 where
   pub few : nodes f.grid < 4294967295
-  pub words : length f.words.now.items ≡ nodes f.grid
+  pub words : AreWords f.words (nodes f.grid)
 
 -- the node is in the net's own tree
 abbrev pub IsOwn : List ℕ → List ℕ → ℕ → ℕ → Type 0

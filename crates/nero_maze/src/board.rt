@@ -1,18 +1,19 @@
 // The arrays of a router.
-ghost use Rattle.std.specs.Prelude.{◌≡◌, ◌≢◌, ◌<◌, ◌⊎◌, ℕ, IfNone, IfSome, slice_index, slice_set};
+ghost use Rattle.std.specs.Prelude.{◌≡◌, ◌≢◌, ◌<◌, ◌⊎◌, ℕ, IfNone, IfOk, IfSome, map, slice_index, slice_set};
 ghost use Rattle.grid_core.specs.Numbers.{nodes};
-ghost use Rattle.nero_maze.specs.Search.{IsIdle, IsOwn};
-ghost use Rattle.nero_maze.specs.Board.{IsSound, HoldsTree, Logs, Touches, Reaches, IsStuck};
+ghost use Rattle.nero_maze.specs.Search.{IsIdle, IsOwn, is_owned};
+ghost use Rattle.nero_maze.specs.Board.{IsSound, HoldTrees, reserved_of, Logs, Touches, Reaches, IsStuck};
 ghost use Rattle.nero_maze.specs.Hulls.{Holds};
 ghost use Rattle.nero_maze.specs.Ripping.{IsTorn, NoWay, IsBlocked};
 
 use crate::claim::claim;
-use crate::frontier::{Frontier, Marked, Room, clear, push};
-use crate::hull::{Hull, hull_of_tree, nowhere, with_node};
+use crate::frontier::{Frontier, Marked, Room, Words, clear, push, reserved_word};
+use crate::hull::{Hull, hull_of_logged, hull_of_tree, keep_hull, nowhere, with_node};
 use crate::search::search;
 use crate::tear::{drop_moves, free_paths};
 use crate::trace::{first_taken, is_free};
 use grid_core::NOBODY;
+use std::alloc::{AllocError, Global};
 
 /// The link of a node at which a tree began.
 pub(crate) const ROOT: u8 = 9;
@@ -21,16 +22,22 @@ const REACHED: u8 = 1;
 /// The mark of one that was in the net's tree already.
 pub(crate) const TOUCHED: u8 = 2;
 
-/// All arrays: 19 bytes a node, and three for each penalty. `reserved` has the owners of nodes before any tree began, and `hull` holds
-/// the tree of net `held`.
+/// All arrays: 16 bytes a node, and three for each penalty. A node that is flagged in `reserved` had its owner before any tree began, and
+/// others had none. Each hull holds the tree of the net with its number.
 #[derive(Drop)]
 pub(crate) struct Board {
     pub(crate) room: Room,
-    pub(crate) reserved: Vec<u32>,
+    pub(crate) reserved: Vec<bool>,
     pub(crate) frontier: Frontier,
     pub(crate) log: Marked,
-    pub(crate) hull: Hull,
-    pub(crate) held: u32,
+    pub(crate) hulls: Vec<Hull>,
+}
+
+/// Which nodes have an owner.
+pub(crate) fn flags_of(alloc: Global, owners: &[u32]) -> Result<Vec<bool>, AllocError>
+    ensures { IfOk result (λ flags. flags.items ≡ map is_owned owners.now) }
+{
+    owners.iter().map(|owner| *owner != NOBODY).collect(alloc)
 }
 
 /// Begins the net's tree at a node that is free for it.
@@ -45,22 +52,23 @@ pub(crate) fn root(board: &mut Board, net: u32, node: u32)
     ensures log { Logs node 1 board.old.log board.new.log }
     ensures frontier { board.new.frontier ≡ board.old.frontier }
     ensures reserved { board.new.reserved ≡ board.old.reserved }
-    ensures holds { HoldsTree board.new }
+    ensures holds { HoldTrees board.new }
 {
-    board.hull = with_node(&board.room.grid, nowhere(), node);
-    board.held = net;
+    let hull = with_node(&board.room.grid, nowhere(), node);
+    keep_hull(&mut board.hulls, net, hull);
     board.room.owners[node as usize] = net;
     board.room.links[node as usize] = ROOT;
     push(&mut board.log, node, REACHED);
 }
 
-/// The hull of the net's tree. It goes over all nodes, unless this is the net of the last call.
+/// The hull of the net's tree. It goes over all nodes where none is kept for the net.
 fn hull_for(board: &Board, net: u32) -> Hull
     requires sound { IsSound board.now }
     ensures { Holds board.now.room.grid result board.now.room.owners.items board.now.room.links.items net }
 {
-    if board.held == net {
-        board.hull
+    let at = net as usize;
+    if at < board.hulls.len() {
+        board.hulls[at]
     } else {
         hull_of_tree(&board.room, net)
     }
@@ -75,7 +83,7 @@ pub(crate) fn join(board: &mut Board, net: u32, target: u32) -> Option<u64>
     ensures joins { IfSome result (λ c. Touches net target c board.old board.new ⊎ Reaches net target c board.old board.new) }
     ensures stuck { IfNone result (IsStuck net target board.old board.new) }
     ensures reserved { board.new.reserved ≡ board.old.reserved }
-    ensures holds { HoldsTree board.new }
+    ensures holds { HoldTrees board.new }
 {
     let at = target as usize;
     let owner = board.room.owners[at];
@@ -87,15 +95,18 @@ pub(crate) fn join(board: &mut Board, net: u32, target: u32) -> Option<u64>
         return None;
     }
     let hull = hull_for(board, net);
-    board.hull = hull;
-    board.held = net;
     let room = &board.room;
-    let found = search(room, &room.owners, net, target, hull, &mut board.frontier);
+    let words = Words {
+        owners: &room.owners,
+        reserved: &board.reserved,
+        past: false,
+    };
+    let found = search(room, words, net, target, hull, &mut board.frontier);
     let Some(meeting) = found else {
         clear(&mut board.frontier);
         return None;
     };
-    board.hull = claim(
+    let grown = claim(
         &mut board.room,
         net,
         target,
@@ -103,6 +114,7 @@ pub(crate) fn join(board: &mut Board, net: u32, target: u32) -> Option<u64>
         hull,
         meeting,
     );
+    keep_hull(&mut board.hulls, net, grown);
     clear(&mut board.frontier);
     push(&mut board.log, target, REACHED);
     Some(meeting.cost)
@@ -115,20 +127,22 @@ pub(crate) fn keep_off(board: &mut Board, net: u32)
     ensures room { board.new.room ≡ board.old.room }
     ensures log { board.new.log ≡ board.old.log }
     ensures reserved { board.new.reserved ≡ board.old.reserved }
-    ensures holds { HoldsTree board.new }
+    ensures holds { HoldTrees board.new }
 {
-    let room = &board.room;
-    board.frontier.ties.add_tree(&room.owners, &room.links, net);
+    let hull = hull_for(board, net);
+    board.frontier.ties.add_tree(&board.room, &hull, net);
 }
 
 /// Takes the paths of a net out: its tree is the node at which it began, and their other nodes are whose they were before.
 pub(crate) fn tear(board: &mut Board, net: u32)
     requires sound { IsSound board.old }
-    ensures { IsTorn net board.old board.new }
+    ensures torn { IsTorn net board.old board.new }
+    ensures holds { HoldTrees board.new }
 {
-    board.held = NOBODY;
     drop_moves(&board.room, &mut board.log, net);
     free_paths(&mut board.room, &board.reserved, net);
+    let hull = hull_of_logged(&board.room, &board.log, net);
+    keep_hull(&mut board.hulls, net, hull);
 }
 
 /// The net whose tree has the first node that isn't free on a least path from the net's tree to the target over nodes that are reserved
@@ -142,25 +156,23 @@ pub(crate) fn block(board: &mut Board, net: u32, target: u32) -> Option<u32>
     ensures room { board.new.room ≡ board.old.room }
     ensures log { board.new.log ≡ board.old.log }
     ensures reserved { board.new.reserved ≡ board.old.reserved }
-    ensures holds { HoldsTree board.new }
+    ensures holds { HoldTrees board.new }
     ensures blocks { IfSome result (λ b. IsBlocked board.old net target b) }
-    ensures none { IfNone result (NoWay board.old board.old.reserved.items net target) }
+    ensures none { IfNone result (NoWay board.old (reserved_of board.old) net target) }
 {
-    let word = board.reserved[target as usize];
+    let word = reserved_word(&board.room.owners, &board.reserved, target);
     if !is_free(word, net) {
         return None;
     }
     let hull = hull_for(board, net);
-    board.hull = hull;
-    board.held = net;
-    let Some(meeting) = search(
-        &board.room,
-        &board.reserved,
-        net,
-        target,
-        hull,
-        &mut board.frontier,
-    ) else {
+    let room = &board.room;
+    let words = Words {
+        owners: &room.owners,
+        reserved: &board.reserved,
+        past: true,
+    };
+    let found = search(room, words, net, target, hull, &mut board.frontier);
+    let Some(meeting) = found else {
         clear(&mut board.frontier);
         return None;
     };

@@ -3,13 +3,13 @@ ghost use Rattle.std.specs.Prelude.{◌≡◌, ◌≢◌, ℕ, ◌+◌, ◌%◌,
 ghost use Rattle.grid_core.specs.Numbers.{nodes};
 ghost use Rattle.nero_maze.specs.Hulls.{far};
 ghost use Rattle.nero_maze.specs.Levels.{IsSource};
-ghost use Rattle.nero_maze.specs.Search.{IsRoom, IsField, IsOwn, IsIdle, Kept, Grown, IsSpread};
+ghost use Rattle.nero_maze.specs.Search.{IsRoom, IsField, IsOwn, IsIdle, Kept, Grown, IsSpread, reserved_in, words_in};
 
 use crate::hull::{Hull, far_from};
 use crate::penalties::Ties;
 use crate::trace::is_free;
 use crate::way::{Place, beside, number_of_place, place_of, weight_of};
-use grid_core::Grid;
+use grid_core::{Grid, NOBODY};
 use std::alloc::{AllocError, Global};
 
 /// The mark of the node at which a search begins; other marks are one more than the way by which the node was reached.
@@ -25,13 +25,47 @@ pub(crate) struct Room {
     pub(crate) links: Vec<u8>,
 }
 
+/// For whom nodes are free, by a word for each: its owner; or, where a search leads past trees, its owner if it is reserved for that one,
+/// and else `NOBODY`.
+#[derive(Clone, Copy)]
+pub(crate) struct Words<'w> {
+    pub(crate) owners: &'w Vec<u32>,
+    pub(crate) reserved: &'w Vec<bool>,
+    pub(crate) past: bool,
+}
+
 /// Where a net may go, over the nodes of the grid whose word is the net's own or `NOBODY`, and the hull to which it goes.
 #[derive(Clone, Copy)]
 pub(crate) struct Field<'w> {
     pub(crate) grid: Grid,
     pub(crate) hull: Hull,
-    pub(crate) words: &'w Vec<u32>,
+    pub(crate) words: Words<'w>,
     pub(crate) net: u32,
+}
+
+/// For whom a node is reserved.
+pub(crate) fn reserved_word(owners: &Vec<u32>, reserved: &Vec<bool>, node: u32) -> u32
+    requires size { length reserved.now.items ≡ length owners.now.items }
+    requires node { node < length owners.now.items }
+    ensures { result ≡ slice_index (reserved_in owners.now.items reserved.now.items) node }
+{
+    let flag = reserved[node as usize];
+    let owner = owners[node as usize];
+    if flag { owner } else { NOBODY }
+}
+
+/// The word of a node.
+fn word_at(field: &Field, node: u32) -> u32
+    requires field { IsField field.now }
+    requires node { node < nodes field.now.grid }
+    ensures { result ≡ slice_index (words_in field.now.words) node }
+{
+    let words = field.words;
+    if words.past {
+        reserved_word(words.owners, words.reserved, node)
+    } else {
+        words.owners[node as usize]
+    }
 }
 
 /// Nodes that got a mark, in the order in which they did, and for each node of the grid its mark or 0.
@@ -133,11 +167,11 @@ fn visit(field: &Field, frontier: &mut Frontier, source: &Source, way: u8)
     requires way { way < 4 }
     ensures size { length frontier.new.marks.items ≡ nodes field.now.grid }
     ensures kept { Kept frontier.new.order.items frontier.new.marks.items frontier.new.count }
-    ensures grown { Grown field.now.grid field.now.words.now.items field.now.net (far field.now.grid field.now.hull) source.now.rise
+    ensures grown { Grown field.now.grid (words_in field.now.words) field.now.net (far field.now.grid field.now.hull) source.now.rise
         source.now.at (source.now.at + 1)
         frontier.old.order.items frontier.old.marks.items frontier.old.count
         frontier.new.order.items frontier.new.marks.items frontier.new.count }
-    ensures spread { IsSpread field.now.grid field.now.words.now.items field.now.net (far field.now.grid field.now.hull) source.now.rise
+    ensures spread { IsSpread field.now.grid (words_in field.now.words) field.now.net (far field.now.grid field.now.hull) source.now.rise
         frontier.old.order.items frontier.new.marks.items source.now.at way }
 {
     let Some(place) = beside(&field.grid, source.place, way) else {
@@ -148,7 +182,7 @@ fn visit(field: &Field, frontier: &mut Frontier, source: &Source, way: u8)
         return;
     }
     let to = number_of_place(&field.grid, place);
-    let owner = field.words[to as usize];
+    let owner = word_at(field, to);
     if !is_free(owner, field.net) {
         return;
     }
@@ -198,11 +232,11 @@ fn expand_one(field: &Field, frontier: &mut Frontier, at: usize, rise: u64)
     requires rise { rise < 7 }
     ensures size { length frontier.new.marks.items ≡ nodes field.now.grid }
     ensures kept { Kept frontier.new.order.items frontier.new.marks.items frontier.new.count }
-    ensures grown { Grown field.now.grid field.now.words.now.items field.now.net (far field.now.grid field.now.hull) rise at (at + 1)
+    ensures grown { Grown field.now.grid (words_in field.now.words) field.now.net (far field.now.grid field.now.hull) rise at (at + 1)
         frontier.old.order.items frontier.old.marks.items frontier.old.count
         frontier.new.order.items frontier.new.marks.items frontier.new.count }
     ensures spread { (k : ℕ) → k < 4
-        → IsSpread field.now.grid field.now.words.now.items field.now.net (far field.now.grid field.now.hull) rise
+        → IsSpread field.now.grid (words_in field.now.words) field.now.net (far field.now.grid field.now.hull) rise
         frontier.old.order.items frontier.new.marks.items at k }
 {
     let source = source_at(field, frontier, at, rise);
@@ -221,11 +255,11 @@ pub(crate) fn expand(field: &Field, frontier: &mut Frontier, span: Span, rise: u
     requires rise { rise < 7 }
     ensures size { length frontier.new.marks.items ≡ nodes field.now.grid }
     ensures kept { Kept frontier.new.order.items frontier.new.marks.items frontier.new.count }
-    ensures grown { Grown field.now.grid field.now.words.now.items field.now.net (far field.now.grid field.now.hull) rise span.from span.to
+    ensures grown { Grown field.now.grid (words_in field.now.words) field.now.net (far field.now.grid field.now.hull) rise span.from span.to
         frontier.old.order.items frontier.old.marks.items frontier.old.count
         frontier.new.order.items frontier.new.marks.items frontier.new.count }
     ensures spread { (j k : ℕ) → span.from ≤ j → j < span.to → k < 4
-        → IsSpread field.now.grid field.now.words.now.items field.now.net (far field.now.grid field.now.hull) rise
+        → IsSpread field.now.grid (words_in field.now.words) field.now.net (far field.now.grid field.now.hull) rise
         frontier.old.order.items frontier.new.marks.items j k }
 {
     for at in span.from..span.to {

@@ -1,12 +1,13 @@
 // A part of the grid that holds the tree of a net, and what a way to it costs at the least.
-ghost use Rattle.std.specs.Prelude.{◌≡◌, ◌<◌, ◌≤◌, ℕ, length};
+ghost use Rattle.std.specs.Prelude.{◌≡◌, ◌<◌, ◌≤◌, ℕ, length, slice_index, slice_set};
 ghost use Rattle.grid_core.specs.Numbers.{nodes};
-ghost use Rattle.nero_maze.specs.Search.{IsRoom, IsOwn};
+ghost use Rattle.nero_maze.specs.Search.{IsRoom, IsOwn, Kept};
 ghost use Rattle.nero_maze.specs.Hulls.{away, far, far_at, Holds};
 
-use crate::frontier::Room;
+use crate::frontier::{Marked, Room};
 use crate::way::{Place, place_of};
-use grid_core::Grid;
+use grid_core::{Grid, NOBODY};
+use std::alloc::{AllocError, Global};
 
 /// The numbers from `least` to `most`.
 #[derive(Clone, Copy, Drop)]
@@ -116,4 +117,41 @@ pub(crate) fn hull_of_tree(room: &Room, net: u32) -> Hull
         hull = with_own(room, net, hull, node);
     }
     hull
+}
+
+/// The hull of those nodes of the net's tree that are in the log. It goes over the log alone.
+pub(crate) fn hull_of_logged(room: &Room, log: &Marked, net: u32) -> Hull
+    requires room { IsRoom room.now }
+    requires kept { Kept log.now.order.items log.now.marks.items log.now.count }
+    requires size { length log.now.marks.items ≡ nodes room.now.grid }
+    ensures { (i : ℕ) → i < log.now.count → IsOwn room.now.owners.items room.now.links.items net (slice_index log.now.order.items i)
+        → far room.now.grid result (slice_index log.now.order.items i) ≡ 0 }
+{
+    let mut hull = nowhere();
+    for at in 0..log.count {
+        hull = with_own(room, net, hull, log.order[at]);
+    }
+    hull
+}
+
+/// A net's hull becomes another, if one is kept for it.
+pub(crate) fn keep_hull(hulls: &mut Vec<Hull>, net: u32, hull: Hull)
+    ensures { hulls.new.items ≡ slice_set hulls.old.items net hull }
+{
+    let at = net as usize;
+    if at < hulls.len() {
+        hulls[at] = hull;
+    }
+}
+
+/// A hull of no place for each net that owns a node.
+pub(crate) fn hulls_of_owners(alloc: Global, owners: &[u32]) -> Result<Vec<Hull>, AllocError> {
+    let mut count = 0;
+    for owner in owners {
+        let above = *owner as usize + 1;
+        if *owner != NOBODY && count < above && above <= owners.len() {
+            count = above;
+        }
+    }
+    vec![in alloc; nowhere(); count]
 }

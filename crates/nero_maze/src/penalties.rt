@@ -1,6 +1,9 @@
 // Which of several least paths a search takes.
 ghost use Rattle.std.specs.Prelude.{◌≡◌};
 
+use crate::frontier::Room;
+use crate::hull::{Extent, Hull};
+use grid_core::Grid;
 use std::alloc::{AllocError, Global};
 
 /// What a node's penalty grows by when a tree is to be kept off.
@@ -46,14 +49,33 @@ impl Ties {
         }
     }
 
-    /// The nodes of the net's tree get greater penalties, up to 255, where nodes have penalties at all.
-    pub(crate) fn add_tree(&mut self, owners: &[u32], links: &[u8], net: u32) {
-        for at in 0..self.penalties.len() {
-            if is_in_tree(owners, links, net, at) {
+    /// The nodes of the net's tree, which the hull holds, get greater penalties, up to 255, where nodes have penalties at all. It goes over
+    /// the hull alone.
+    pub(crate) fn add_tree(&mut self, room: &Room, hull: &Hull, net: u32) {
+        for layer in hull.layers.least..=hull.layers.most {
+            for row in hull.rows.least..=hull.rows.most {
+                let start = start_of_row(&room.grid, layer, row);
+                self.add_row(room, &hull.columns, net, start);
+            }
+        }
+    }
+
+    /// The same for the nodes of a row, the first of which has this number.
+    fn add_row(&mut self, room: &Room, columns: &Extent, net: u32, start: usize) {
+        for column in columns.least..=columns.most {
+            let at = start.saturating_add(column as usize);
+            if at < self.penalties.len() && is_in_tree(&room.owners, &room.links, net, at) {
                 self.penalties[at] = self.penalties[at].saturating_add(TREE_PENALTY);
             }
         }
     }
+}
+
+/// The number of the first node of a row.
+fn start_of_row(grid: &Grid, layer: u32, row: u32) -> usize {
+    let rows = u64::from(layer).saturating_mul(u64::from(grid.rows));
+    let above = rows.saturating_add(u64::from(row));
+    above.saturating_mul(u64::from(grid.columns)) as usize
 }
 
 /// Whether a node is in the net's tree.

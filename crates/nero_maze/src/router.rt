@@ -6,12 +6,12 @@ ghost use Rattle.grid_core.specs.Owners.{IsFree};
 ghost use Rattle.grid_core.specs.Routes.{tree_nodes};
 ghost use Rattle.nero_maze.specs.Routing.{tree_of, IsPoint, IsBare, Begins, Connects, TakesOut, Blocks, NoneFrom, AreTrees};
 
-use crate::board::{Board, block, join, keep_off, root, tear};
+use crate::board::{Board, block, flags_of, join, keep_off, root, tear};
 use crate::frontier::{Frontier, Room, unmarked, zeros};
 use crate::history::trees_of;
-use crate::hull::nowhere;
+use crate::hull::hulls_of_owners;
 use crate::penalties::Ties;
-use grid_core::{NOBODY, Node, Occupied, Routes, number_of};
+use grid_core::{Node, Occupied, Routes, number_of};
 use std::alloc::{AllocError, Global};
 use std::marker::Model;
 
@@ -38,7 +38,7 @@ impl Model for Router {
 }
 
 impl Router {
-    /// No net has a tree. Takes fifteen bytes a node beside the table of owners, and all that later calls need.
+    /// No net has a tree. Takes twelve bytes a node beside the table of owners, and all that later calls need.
     pub fn begin(alloc: Global, occupied: Occupied) -> Result<Self, AllocError>
         ensures { IfOk result (λ r. IsBare occupied r) }
     {
@@ -56,7 +56,8 @@ impl Router {
     {
         let grid = occupied.grid();
         let owners = occupied.into_words();
-        let reserved = Vec::from_slice(alloc, &owners)?;
+        let reserved = flags_of(alloc, &owners)?;
+        let hulls = hulls_of_owners(alloc, &owners)?;
         let count = owners.len();
         let links = zeros(alloc, count)?;
         let reached = unmarked(alloc, count)?;
@@ -78,8 +79,7 @@ impl Router {
                     ties,
                 },
                 log,
-                hull: nowhere(),
-                held: NOBODY,
+                hulls,
             },
         })
     }
@@ -114,7 +114,7 @@ impl Router {
     }
 
     /// Later paths keep off the nodes that the net's tree has now, where others cost no more and the nodes have penalties. Takes no memory,
-    /// and goes over all nodes.
+    /// and goes over the least box that holds the tree.
     pub fn avoid(&mut self, net: u32)
         ensures { self.new ≡ self.old }
     {

@@ -1,11 +1,12 @@
-// The search for a least path, level by level from its target.
+// The search for a least path, level by level from its target: Lee's maze router (1961), where steps and vias have weights, with the bound
+// on the rest of the way that A* has (Hart, Nilsson and Raphael, 1968). The bound is the distance to the least box that holds the tree.
 ghost use Rattle.std.specs.Prelude.{◌≡◌, ℕ, ◌+◌, ◌<◌, List, IfNone, IfSome, length, slice_index};
 ghost use Rattle.grid_core.specs.Numbers.{nodes};
 ghost use Rattle.nero_maze.specs.Hulls.{far, Holds};
 ghost use Rattle.nero_maze.specs.Levels.{Knows, Flat, Spread, AllMarked, IsLonger};
-ghost use Rattle.nero_maze.specs.Search.{IsRoom, IsField, IsOwn, Kept, LeadsTo, NoneBelow, Trace};
+ghost use Rattle.nero_maze.specs.Search.{IsRoom, IsField, IsOwn, Kept, LeadsTo, NoneBelow, Trace, AreWords, words_in};
 
-use crate::frontier::{FRESH, Field, Frontier, Room, START, Span, expand, met, settle};
+use crate::frontier::{FRESH, Field, Frontier, Room, START, Span, Words, expand, met, settle};
 use crate::hull::{Hull, far_from};
 use crate::level::{Level, first_level, next_level};
 use crate::way::place_of;
@@ -20,14 +21,14 @@ pub(crate) struct Meeting {
 /// Goes on from the entries of earlier levels, as far as this one.
 fn advance(field: &Field, frontier: &mut Frontier, level: &Level)
     requires field { IsField field.now }
-    requires knows { Knows field.now.grid field.now.words.now.items field.now.net (far field.now.grid field.now.hull) level.now
+    requires knows { Knows field.now.grid (words_in field.now.words) field.now.net (far field.now.grid field.now.hull) level.now
         frontier.old.order.items frontier.old.marks.items frontier.old.count }
     requires flat { Flat frontier.old.order.items frontier.old.marks.items frontier.old.count }
     requires first { level.now.first ≡ frontier.old.count }
-    ensures knows { Knows field.now.grid field.now.words.now.items field.now.net (far field.now.grid field.now.hull) level.now
+    ensures knows { Knows field.now.grid (words_in field.now.words) field.now.net (far field.now.grid field.now.hull) level.now
         frontier.new.order.items frontier.new.marks.items frontier.new.count }
     ensures flat { Flat frontier.new.order.items frontier.new.marks.items level.now.first }
-    ensures spread { Spread field.now.grid field.now.words.now.items field.now.net (far field.now.grid field.now.hull) level.now
+    ensures spread { Spread field.now.grid (words_in field.now.words) field.now.net (far field.now.grid field.now.hull) level.now
         frontier.new.order.items frontier.new.marks.items level.now.first }
     ensures longer { IsLonger frontier.old.order.items frontier.old.count frontier.new.order.items frontier.new.count }
 {
@@ -56,15 +57,15 @@ fn advance(field: &Field, frontier: &mut Frontier, level: &Level)
 /// Goes on from the entries of this level to others of this level, until none is left.
 fn spill(field: &Field, frontier: &mut Frontier, level: &Level)
     requires field { IsField field.now }
-    requires knows { Knows field.now.grid field.now.words.now.items field.now.net (far field.now.grid field.now.hull) level.now
+    requires knows { Knows field.now.grid (words_in field.now.words) field.now.net (far field.now.grid field.now.hull) level.now
         frontier.old.order.items frontier.old.marks.items frontier.old.count }
     requires flat { Flat frontier.old.order.items frontier.old.marks.items level.now.first }
-    requires spread { Spread field.now.grid field.now.words.now.items field.now.net (far field.now.grid field.now.hull) level.now
+    requires spread { Spread field.now.grid (words_in field.now.words) field.now.net (far field.now.grid field.now.hull) level.now
         frontier.old.order.items frontier.old.marks.items level.now.first }
-    ensures knows { Knows field.now.grid field.now.words.now.items field.now.net (far field.now.grid field.now.hull) level.now
+    ensures knows { Knows field.now.grid (words_in field.now.words) field.now.net (far field.now.grid field.now.hull) level.now
         frontier.new.order.items frontier.new.marks.items frontier.new.count }
     ensures flat { Flat frontier.new.order.items frontier.new.marks.items frontier.new.count }
-    ensures all { AllMarked field.now.grid field.now.words.now.items field.now.net (far field.now.grid field.now.hull) level.now.target
+    ensures all { AllMarked field.now.grid (words_in field.now.words) field.now.net (far field.now.grid field.now.hull) level.now.target
         frontier.new.marks.items (level.now.sum + 1) }
     ensures longer { IsLonger frontier.old.order.items frontier.old.count frontier.new.order.items frontier.new.count }
 {
@@ -84,14 +85,14 @@ fn spill(field: &Field, frontier: &mut Frontier, level: &Level)
 /// word is the net's own or `NOBODY`, until it meets a node of the net's tree. The hull holds this tree.
 pub(crate) fn search(
     room: &Room,
-    words: &Vec<u32>,
+    words: Words,
     net: u32,
     target: u32,
     hull: Hull,
     frontier: &mut Frontier,
 ) -> Option<Meeting>
     requires room { IsRoom room.now }
-    requires words { length words.now.items ≡ nodes room.now.grid }
+    requires words { AreWords words (nodes room.now.grid) }
     requires marks { length frontier.old.marks.items ≡ nodes room.now.grid }
     requires order { length frontier.old.order.items ≡ nodes room.now.grid }
     requires clear { (v : ℕ) → slice_index frontier.old.marks.items v ≡ 0 }
@@ -103,11 +104,11 @@ pub(crate) fn search(
     ensures within { IfSome result (λ m. m.node < nodes room.now.grid) }
     ensures own { IfSome result (λ m. IsOwn room.now.owners.items room.now.links.items net m.node) }
     ensures trace { IfSome result (λ m. (back : List ℕ) × (length back < nodes room.now.grid)
-        × Trace room.now.grid words.now.items net frontier.new.marks.items target m.node back m.cost) }
+        × Trace room.now.grid (words_in words.entry) net frontier.new.marks.items target m.node back m.cost) }
     ensures least { IfSome result (λ m. (v : ℕ) → IsOwn room.now.owners.items room.now.links.items net v
-        → NoneBelow room.now.grid words.now.items net target v m.cost) }
+        → NoneBelow room.now.grid (words_in words.entry) net target v m.cost) }
     ensures none { IfNone result ((v : ℕ) (back : List ℕ) (c : ℕ) → IsOwn room.now.owners.items room.now.links.items net v
-        → LeadsTo room.now.grid words.now.items net target v back c → ⊥) }
+        → LeadsTo room.now.grid (words_in words.entry) net target v back c → ⊥) }
 {
     let field = Field {
         grid: room.grid,

@@ -1,11 +1,11 @@
 // A net's paths are taken out.
 ghost use Rattle.std.specs.Prelude.{◌≡◌, ◌<◌, ◌≤◌, ◌+◌, length, slice_index};
 ghost use Rattle.grid_core.specs.Numbers.{nodes};
-ghost use Rattle.nero_maze.specs.Search.{IsRoom, Kept};
+ghost use Rattle.nero_maze.specs.Search.{IsRoom, Kept, reserved_in};
 ghost use Rattle.nero_maze.specs.Ripping.{IsFreed, IsShorter, IsSifted, IsFreedAt};
 
 use crate::board::ROOT;
-use crate::frontier::{Marked, Room};
+use crate::frontier::{Marked, Room, reserved_word};
 
 /// Entry `at` of the log goes, if it tells of a path of the net; else it moves to place `count`. How many stay so far is given.
 fn sift(room: &Room, log: &mut Marked, net: u32, at: usize, count: usize) -> usize
@@ -42,29 +42,32 @@ pub(crate) fn drop_moves(room: &Room, log: &mut Marked, net: u32)
 }
 
 /// A node of the net's tree, other than the one at which this began, gets the owner for which it is reserved.
-fn free_node(room: &mut Room, reserved: &[u32], net: u32, node: usize)
+fn free_node(room: &mut Room, reserved: &Vec<bool>, net: u32, node: u32)
     requires room { IsRoom room.old }
-    requires size { length reserved.now ≡ nodes room.old.grid }
+    requires size { length reserved.now.items ≡ nodes room.old.grid }
     requires node { node < nodes room.old.grid }
-    ensures { IsFreedAt net reserved.now node room.old room.new }
+    ensures { IsFreedAt net (reserved_in room.old.owners.items reserved.now.items) node room.old room.new }
 {
-    let link = room.links[node];
+    let at = node as usize;
+    let link = room.links[at];
     if link == 0 || link == ROOT {
         return;
     }
-    if room.owners[node] == net {
-        room.links[node] = 0;
-        room.owners[node] = reserved[node];
+    if room.owners[at] == net {
+        let word = reserved_word(&room.owners, reserved, node);
+        room.links[at] = 0;
+        room.owners[at] = word;
     }
 }
 
 /// The nodes of the net's tree but the one at which this began get the owners for which they are reserved. It goes over all nodes.
-pub(crate) fn free_paths(room: &mut Room, reserved: &[u32], net: u32)
+pub(crate) fn free_paths(room: &mut Room, reserved: &Vec<bool>, net: u32)
     requires room { IsRoom room.old }
-    requires size { length reserved.now ≡ nodes room.old.grid }
-    ensures { IsFreed net reserved.now room.old room.new }
+    requires size { length reserved.now.items ≡ nodes room.old.grid }
+    ensures { IsFreed net (reserved_in room.old.owners.items reserved.now.items) room.old room.new }
 {
-    for node in 0..reserved.len() {
+    let count = reserved.len() as u32;
+    for node in 0..count {
         free_node(room, reserved, net, node);
     }
 }

@@ -2,6 +2,7 @@
 ghost use Rattle.std.specs.Prelude.{◌≡◌, ◌≢◌, ◌⊎◌, ◌<◌, ◌∷◌, ℕ, true, false, List, length};
 ghost use Rattle.grid_core.specs.Numbers.{nodes};
 ghost use Rattle.nero_maze.specs.Search.{IsRoom, Trace};
+ghost use Rattle.nero_maze.specs.Board.{reserved_of};
 ghost use Rattle.nero_maze.specs.Ripping.{AreFree, FirstTaken};
 
 use crate::board::Board;
@@ -23,10 +24,10 @@ pub(crate) fn first_taken(board: &Board, net: u32, target: u32, meeting: Meeting
     requires marks { length board.now.frontier.marks.items ≡ nodes board.now.room.grid }
     requires met { meeting.node < nodes board.now.room.grid }
     requires trace { (back : List ℕ)
-        × Trace board.now.room.grid board.now.reserved.items net board.now.frontier.marks.items target meeting.node back meeting.cost
+        × Trace board.now.room.grid (reserved_of board.now) net board.now.frontier.marks.items target meeting.node back meeting.cost
         × (AreFree board.now.room.owners.items net (meeting.node ∷ back) → ⊥) }
     ensures { (back : List ℕ)
-        × Trace board.now.room.grid board.now.reserved.items net board.now.frontier.marks.items target meeting.node back meeting.cost
+        × Trace board.now.room.grid (reserved_of board.now) net board.now.frontier.marks.items target meeting.node back meeting.cost
         × FirstTaken board.now.room.owners.items net result (meeting.node ∷ back) }
 {
     let mut node = meeting.node;

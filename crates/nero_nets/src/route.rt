@@ -17,7 +17,7 @@ use std::alloc::Global;
 
 /// The routes of all nets of a netlist that is placed in rows, on the metals from 2 up to this one: by half perimeter, then by number,
 /// each by least paths from its first point on, beside the trees of those before it and what is reserved for others. Refused exactly
-/// where a net gets stuck so. Takes 22 bytes for each node of the grid, and memory for terminals and routes.
+/// where a net gets stuck so. Takes 19 bytes for each node of the grid, and memory for terminals and routes.
 pub fn route_all(
     alloc: Global,
     placement: &Placement,

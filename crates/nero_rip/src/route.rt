@@ -74,7 +74,7 @@ fn name_rips(
 /// each by least paths from its first point on, beside all other trees and what is reserved for others. Where a net is stuck, a least path
 /// is sought past the trees of other nets, and the paths of the first net on it are torn out; then the stuck net goes on until it is whole,
 /// and then the first in the order that isn't. Refused exactly where a net is stuck so and as many rips were made as are allowed, or no
-/// path leads there past all other trees either. Takes 22 bytes for each node of the grid, and memory for terminals, routes and rips.
+/// path leads there past all other trees either. Takes 19 bytes for each node of the grid, and memory for terminals, routes and rips.
 pub fn route_with_rips(
     alloc: Global,
     placement: &Placement,

@@ -1,6 +1,7 @@
 use Rattle.std.proofs.Common.{◌+◌, ◌<◌, ◌≤◌, inl, inr, arith, sym, ◌∙◌}
 use Rattle.std.proofs.lemmas.Bool.{cases_eq}
 use Rattle.nero_maze.specs.Hulls.{far}
+use Rattle.nero_maze.specs.Search.{words_in}
 use Rattle.nero_maze.proofs.Theory.{Grown-none, Grown-step, mark_stays}
 use Rattle.nero_maze.proofs.Levels.{spread_later}
 use Rattle.nero_maze.proofs.frontier.expand_one.Goals as goal
@@ -10,7 +11,7 @@ loop-way-init c =
     record {
       size = c.requires.size;
       kept = c.requires.kept;
-      grown = Grown-none c.args.field.now.grid c.args.field.now.words.now.items c.args.field.now.net (far c.args.field.now.grid c.args.field.now.hull) c.args.rise c.args.at (c.args.at + 1)
+      grown = Grown-none c.args.field.now.grid (words_in c.args.field.now.words) c.args.field.now.net (far c.args.field.now.grid c.args.field.now.hull) c.args.rise c.args.at (c.args.at + 1)
           c.args.frontier.now.order.items c.args.frontier.now.marks.items c.args.frontier.now.count;
       spread = λ k lt. absurd (omega arith);
     }
@@ -34,7 +35,7 @@ visit-requires-clause-source c =
 pub loop-way-preserved : goal.loop-way-preserved
 loop-way-preserved c =
     let g = c.args.field.now.grid in
-    let o = c.args.field.now.words.now.items in
+    let o = words_in c.args.field.now.words in
     let t = c.args.field.now.net in
     let h = far g c.args.field.now.hull in
     let rise = c.args.rise in

@@ -1,6 +1,6 @@
 use Rattle.std.proofs.Common.{ℕ, ◌≡◌, ◌≢◌, ◌+◌, ◌<◌, length, set, slice_index, arith, sym, ◌∙◌, subst, inl, inr, get_or-set_same}
 use Rattle.nero_maze.specs.Hulls.{far}
-use Rattle.nero_maze.specs.Search.{IsFree, Kept, Grown}
+use Rattle.nero_maze.specs.Search.{IsFree, Kept, Grown, words_in}
 use Rattle.nero_maze.proofs.frontier.visit.Goals as goal
 use Rattle.nero_maze.proofs.Theory.{room, read_at, Kept-more, Grown-one, Grown-prefer}
 use Rattle.nero_maze.proofs.Visiting.{visit_of, visit_none, visit_other, same_next}
@@ -33,14 +33,13 @@ returns-clause-grown c =
     let ord = c.args.frontier.now.order.items in
     let m = c.args.frontier.now.marks.items in
     let n = c.args.frontier.now.count in
-    let o = f.words.now.items in
+    let o = words_in f.words in
     let to = c.number_of_place-to.result in
     let vis = visit_of f ord s c.in-Some.place c.args.way to c.far_from-far.result c.weight_of.result c.requires.source c.requires.way c.in-Some.ensures.within c.in-Some.ensures.is
     c.number_of_place-to.ensures.is c.far_from-far.ensures.is c.weight_of.ensures c.if-weight_of-far.false in
     let lt : to < length m = (let h = c.number_of_place-to.ensures.below in let e = c.requires.size in omega arith) in
     let known = read_at m to c.index-known.result.now lt c.index-known.ensures in
-    let lt_o : to < length o = (let h = c.number_of_place-to.ensures.below in let e = c.requires.field.words in omega arith) in
-    let word = read_at o to c.index-owner.result.now lt_o c.index-owner.ensures in
+    let word = sym c.word_at-owner.ensures in
     let free : IsFree o f.net to = elim (c.is_free.ensures.free c.if-not-is_free.false) [ inl e ↦ inl (word ∙ e) | inr e ↦ inr (word ∙ e) ] in
     let z : slice_index m to ≡ 0 = known ∙ c.if-known-ne0.false in
     let same : c.args.way + 9 ≡ c.args.way + 1 + 8 = omega arith in
@@ -54,14 +53,13 @@ returns-then-known-gt-FRESH-clause-grown c =
     let ord = c.args.frontier.now.order.items in
     let m = c.args.frontier.now.marks.items in
     let n = c.args.frontier.now.count in
-    let o = f.words.now.items in
+    let o = words_in f.words in
     let to = c.number_of_place-to.result in
     let vis = visit_of f ord s c.in-Some.place c.args.way to c.far_from-far.result c.weight_of.result c.requires.source c.requires.way c.in-Some.ensures.within c.in-Some.ensures.is
     c.number_of_place-to.ensures.is c.far_from-far.ensures.is c.weight_of.ensures c.if-weight_of-far.false in
     let lt : to < length m = (let h = c.number_of_place-to.ensures.below in let e = c.requires.size in omega arith) in
     let known = read_at m to c.index-known.result.now lt c.index-known.ensures in
-    let lt_o : to < length o = (let h = c.number_of_place-to.ensures.below in let e = c.requires.field.words in omega arith) in
-    let word = read_at o to c.index-owner.result.now lt_o c.index-owner.ensures in
+    let word = sym c.word_at-owner.ensures in
     let free : IsFree o f.net to = elim (c.is_free.ensures.free c.if-not-is_free.false) [ inl e ↦ inl (word ∙ e) | inr e ↦ inr (word ∙ e) ] in
     let high = c.if-known-gt-FRESH.true in
     let fresh : 8 < slice_index m to = omega arith in
@@ -83,12 +81,11 @@ returns-then-not-is_free-clause-spread c = λ v is sum free.
     let s = c.args.source.now in
     let ord = c.args.frontier.now.order.items in
     let m = c.args.frontier.now.marks.items in
-    let o = f.words.now.items in
+    let o = words_in f.words in
     let to = c.number_of_place-to.result in
     let vis = visit_of f ord s c.in-Some.place c.args.way to c.far_from-far.result c.weight_of.result c.requires.source c.requires.way c.in-Some.ensures.within c.in-Some.ensures.is
     c.number_of_place-to.ensures.is c.far_from-far.ensures.is c.weight_of.ensures c.if-weight_of-far.false in
-    let lt_o : to < length o = (let h = c.number_of_place-to.ensures.below in let e = c.requires.field.words in omega arith) in
-    let word = read_at o to c.index-owner.result.now lt_o c.index-owner.ensures in
+    let word = sym c.word_at-owner.ensures in
     let e = same_next f.grid (slice_index ord s.at) c.args.way v to is vis.there in
     let free' : IsFree o f.net to = subst (λ (w : ℕ). IsFree o f.net w) e free in
     let r = c.is_free.ensures.taken c.if-not-is_free.true in
@@ -101,7 +98,7 @@ returns-then-known-gt-FRESH-clause-spread c = λ v is sum free.
     let ord = c.args.frontier.now.order.items in
     let m = c.args.frontier.now.marks.items in
     let n = c.args.frontier.now.count in
-    let o = f.words.now.items in
+    let o = words_in f.words in
     let to = c.number_of_place-to.result in
     let vis = visit_of f ord s c.in-Some.place c.args.way to c.far_from-far.result c.weight_of.result c.requires.source c.requires.way c.in-Some.ensures.within c.in-Some.ensures.is
     c.number_of_place-to.ensures.is c.far_from-far.ensures.is c.weight_of.ensures c.if-weight_of-far.false in
@@ -124,7 +121,7 @@ returns-then-known-ne0-clause-spread c = λ v is sum free.
     let ord = c.args.frontier.now.order.items in
     let m = c.args.frontier.now.marks.items in
     let n = c.args.frontier.now.count in
-    let o = f.words.now.items in
+    let o = words_in f.words in
     let to = c.number_of_place-to.result in
     let vis = visit_of f ord s c.in-Some.place c.args.way to c.far_from-far.result c.weight_of.result c.requires.source c.requires.way c.in-Some.ensures.within c.in-Some.ensures.is
     c.number_of_place-to.ensures.is c.far_from-far.ensures.is c.weight_of.ensures c.if-weight_of-far.false in
@@ -142,7 +139,7 @@ returns-clause-spread c = λ v is sum free.
     let ord = c.args.frontier.now.order.items in
     let m = c.args.frontier.now.marks.items in
     let n = c.args.frontier.now.count in
-    let o = f.words.now.items in
+    let o = words_in f.words in
     let to = c.number_of_place-to.result in
     let vis = visit_of f ord s c.in-Some.place c.args.way to c.far_from-far.result c.weight_of.result c.requires.source c.requires.way c.in-Some.ensures.within c.in-Some.ensures.is
     c.number_of_place-to.ensures.is c.far_from-far.ensures.is c.weight_of.ensures c.if-weight_of-far.false in

@@ -1,4 +1,5 @@
 use Rattle.nero_maze.specs.Hulls.{far}
+use Rattle.nero_maze.specs.Search.{words_in}
 use Rattle.nero_maze.proofs.Levels.{advanced}
 use Rattle.nero_maze.proofs.Slope.{far_slope}
 use Rattle.nero_maze.proofs.search.advance.Goals as goal
@@ -16,7 +17,7 @@ returns-clause-knows c =
     let e2 = c.expand-2.ensures in
     let e3 = c.expand-3.ensures in
     let e4 = c.expand-4.ensures in
-    let all = advanced f.grid f.words.now.items f.net (far f.grid f.hull) l f0.order.items f0.marks.items f0.count
+    let all = advanced f.grid (words_in f.words) f.net (far f.grid f.hull) l f0.order.items f0.marks.items f0.count
     f1.order.items f1.marks.items f1.count f2.order.items f2.marks.items f2.count f3.order.items f3.marks.items f3.count f4.order.items f4.marks.items f4.count
     (far_slope f.grid f.hull) c.requires.knows c.requires.flat c.requires.first e1.grown e1.spread e1.kept e2.grown e2.spread e2.kept e3.grown e3.spread e3.kept e4.grown e4.spread e4.kept in
     all.knows
@@ -34,7 +35,7 @@ returns-clause-flat c =
     let e2 = c.expand-2.ensures in
     let e3 = c.expand-3.ensures in
     let e4 = c.expand-4.ensures in
-    let all = advanced f.grid f.words.now.items f.net (far f.grid f.hull) l f0.order.items f0.marks.items f0.count
+    let all = advanced f.grid (words_in f.words) f.net (far f.grid f.hull) l f0.order.items f0.marks.items f0.count
     f1.order.items f1.marks.items f1.count f2.order.items f2.marks.items f2.count f3.order.items f3.marks.items f3.count f4.order.items f4.marks.items f4.count
     (far_slope f.grid f.hull) c.requires.knows c.requires.flat c.requires.first e1.grown e1.spread e1.kept e2.grown e2.spread e2.kept e3.grown e3.spread e3.kept e4.grown e4.spread e4.kept in
     all.flat
@@ -52,7 +53,7 @@ returns-clause-spread c =
     let e2 = c.expand-2.ensures in
     let e3 = c.expand-3.ensures in
     let e4 = c.expand-4.ensures in
-    let all = advanced f.grid f.words.now.items f.net (far f.grid f.hull) l f0.order.items f0.marks.items f0.count
+    let all = advanced f.grid (words_in f.words) f.net (far f.grid f.hull) l f0.order.items f0.marks.items f0.count
     f1.order.items f1.marks.items f1.count f2.order.items f2.marks.items f2.count f3.order.items f3.marks.items f3.count f4.order.items f4.marks.items f4.count
     (far_slope f.grid f.hull) c.requires.knows c.requires.flat c.requires.first e1.grown e1.spread e1.kept e2.grown e2.spread e2.kept e3.grown e3.spread e3.kept e4.grown e4.spread e4.kept in
     all.spread
@@ -70,7 +71,7 @@ returns-clause-longer c =
     let e2 = c.expand-2.ensures in
     let e3 = c.expand-3.ensures in
     let e4 = c.expand-4.ensures in
-    let all = advanced f.grid f.words.now.items f.net (far f.grid f.hull) l f0.order.items f0.marks.items f0.count
+    let all = advanced f.grid (words_in f.words) f.net (far f.grid f.hull) l f0.order.items f0.marks.items f0.count
     f1.order.items f1.marks.items f1.count f2.order.items f2.marks.items f2.count f3.order.items f3.marks.items f3.count f4.order.items f4.marks.items f4.count
     (far_slope f.grid f.hull) c.requires.knows c.requires.flat c.requires.first e1.grown e1.spread e1.kept e2.grown e2.spread e2.kept e3.grown e3.spread e3.kept e4.grown e4.spread e4.kept in
     all.longer

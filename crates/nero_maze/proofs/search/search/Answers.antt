@@ -3,7 +3,7 @@ use Rattle.std.proofs.lemmas.Bool.{cases_lt}
 use Rattle.std.proofs.lemmas.List.{length-set}
 use Rattle.grid_core.specs.Numbers.{nodes}
 use Rattle.nero_maze.specs.Hulls.{far}
-use Rattle.nero_maze.specs.Search.{Kept, NoneBelow, LeadsTo, Trace}
+use Rattle.nero_maze.specs.Search.{Kept, NoneBelow, LeadsTo, Trace, words_in}
 use Rattle.nero_maze.proofs.Theory.{Kept-none, Kept-more}
 use Rattle.nero_maze.proofs.Levels.{IsFirstLevel, begun, shift, closed, arrived, none_below}
 use Rattle.nero_maze.proofs.Slope.{far_slope, far-place}
@@ -42,7 +42,7 @@ loop-level-init c =
     let sum = fl.sum in
     record {
       target = fl.target;
-      knows = begun g c.args.words.now.items c.args.net h c.first_level-level.result z (slice_set ord 0 z) (slice_set m z 13) (far_slope g c.args.hull) first kept
+      knows = begun g (words_in c.args.words) c.args.net h c.first_level-level.result z (slice_set ord 0 z) (slice_set m z 13) (far_slope g c.args.hull) first kept
           (length-set m z 13 ∙ size) hz (get_or-set_same ord 0 z 0 some) (get_or-set_same m z 13 0 lt);
       flat = λ i below. absurd (omega arith);
       spread = λ j k v below. absurd (omega arith);
@@ -70,7 +70,7 @@ next_level-level-requires c =
 pub advance-requires-clause-knows : goal.advance-requires-clause-knows
 advance-requires-clause-knows c =
     let g = c.args.room.now.grid in
-    let o = c.args.words.now.items in
+    let o = words_in c.args.words in
     let net = c.args.net in
     let h = far g c.args.hull in
     let inv = c.loop-level.invariant in
@@ -83,7 +83,7 @@ advance-requires-clause-knows c =
 pub loop-level-smaller : goal.loop-level-smaller
 loop-level-smaller c =
     let g = c.args.room.now.grid in
-    let o = c.args.words.now.items in
+    let o = words_in c.args.words in
     let net = c.args.net in
     let h = far g c.args.hull in
     let inv = c.loop-level.invariant in
@@ -116,7 +116,7 @@ loop-level-smaller c =
 pub loop-level-preserved : goal.loop-level-preserved
 loop-level-preserved c =
     let g = c.args.room.now.grid in
-    let o = c.args.words.now.items in
+    let o = words_in c.args.words in
     let net = c.args.net in
     let h = far g c.args.hull in
     let inv = c.loop-level.invariant in
@@ -161,7 +161,7 @@ loop-level-preserved c =
 pub returns-in-Some-clause-trace : goal.returns-in-Some-clause-trace
 returns-in-Some-clause-trace c =
     let g = c.args.room.now.grid in
-    let o = c.args.words.now.items in
+    let o = words_in c.args.words in
     let net = c.args.net in
     let h = far g c.args.hull in
     let inv = c.loop-level.invariant in
@@ -185,7 +185,7 @@ returns-in-Some-clause-trace c =
 pub returns-in-Some-clause-least : goal.returns-in-Some-clause-least
 returns-in-Some-clause-least c = λ v own.
     let g = c.args.room.now.grid in
-    let o = c.args.words.now.items in
+    let o = words_in c.args.words in
     let net = c.args.net in
     let h = far g c.args.hull in
     let inv = c.loop-level.invariant in
@@ -206,7 +206,7 @@ returns-in-Some-clause-kept c = c.spill.ensures.knows.kept
 pub returns-clause-none : goal.returns-clause-none
 returns-clause-none c = λ v back e own p.
     let g = c.args.room.now.grid in
-    let o = c.args.words.now.items in
+    let o = words_in c.args.words in
     let net = c.args.net in
     let h = far g c.args.hull in
     let inv = c.loop-level.invariant in

@@ -1,5 +1,6 @@
 use Rattle.std.proofs.Common.{arith, refl, ◌∙◌, ap, length, length-set, slice_index}
 use Rattle.nero_maze.specs.Hulls.{far}
+use Rattle.nero_maze.specs.Search.{words_in}
 use Rattle.nero_maze.proofs.Levels.{live, spilled, all_marked}
 use Rattle.nero_maze.proofs.Slope.{far_slope}
 use Rattle.nero_maze.proofs.search.spill.Goals as goal
@@ -22,7 +23,7 @@ pub settle-requires-clause-live : goal.settle-requires-clause-live
 settle-requires-clause-live c =
     let f = c.args.field.now in
     let f0 = c.loop-at.frontier in
-    live f.grid f.words.now.items f.net (far f.grid f.hull) c.args.level.now f0.order.items f0.marks.items f0.count c.loop-at.at c.loop-at.invariant.knows c.loop-at-test.true
+    live f.grid (words_in f.words) f.net (far f.grid f.hull) c.args.level.now f0.order.items f0.marks.items f0.count c.loop-at.at c.loop-at.invariant.knows c.loop-at-test.true
 
 pub expand-requires-clause-size : goal.expand-requires-clause-size
 expand-requires-clause-size c =
@@ -47,7 +48,7 @@ loop-at-preserved c =
     let f2 = c.expand.new.frontier in
     let e1 = c.settle.ensures in
     let e2 = c.expand.ensures in
-    spilled f.grid f.words.now.items f.net (far f.grid f.hull) c.args.level.now c.args.frontier.now.order.items c.args.frontier.now.count
+    spilled f.grid (words_in f.words) f.net (far f.grid f.hull) c.args.level.now c.args.frontier.now.order.items c.args.frontier.now.count
     f0.order.items f0.marks.items f0.count c.loop-at.at f1.order.items f1.marks.items f1.count f2.order.items f2.marks.items f2.count
     (far_slope f.grid f.hull) c.loop-at.invariant c.loop-at-test.true e1.order e1.count e1.marks e1.kept e2.grown e2.spread e2.kept
 
@@ -68,7 +69,7 @@ returns-clause-all c =
     let inv = c.loop-at.invariant in
     let to = inv.to in
     let ge = c.loop-at-test.false in
-    all_marked f.grid f.words.now.items f.net (far f.grid f.hull) c.args.level.now f0.order.items f0.marks.items f0.count (far_slope f.grid f.hull) inv.knows
+    all_marked f.grid (words_in f.words) f.net (far f.grid f.hull) c.args.level.now f0.order.items f0.marks.items f0.count (far_slope f.grid f.hull) inv.knows
     (λ j k v lt. inv.spread j k v (omega arith))
 
 pub returns-clause-longer : goal.returns-clause-longer
