@@ -1,18 +1,20 @@
 #!/usr/bin/env bash
 # Measures the routing over rows of `alliance flow` on the examples, on circuits as courses have them (multipliers to 8 bits, ALUs of 8 and
-# 16, encoders, decoders, filters, counters, state machines) and on generated circuits of 50 to 16,000 gates, over the row library cells/;
-# and beside it, on the same placement and pins, qrouter, and on the same netlist and number of rows graywolf, which places, where they are
-# installed. Before that, where PROBE is given, the program maze_probe, it measures the routing alone over empty grids of 5 and of 50 million
+# 16, encoders, decoders, filters, counters, state machines) and on generated circuits of 50 to 16,000 gates, over the row library cells/,
+# and then `ocp` and `nero` on netlists of 1,000, 3,000 and 10,000 cells whose wires are as local as Rent's rule says (rent_netlist.py);
+# and beside it, up to 3,000 cells, on the same placement and pins, qrouter, and on the same netlist and number of rows graywolf, which
+# places, where they are installed. Before that, where PROBE is given, the program maze_probe, it measures the routing alone over empty grids of 5 and of 50 million
 # nodes: no net, one net of 10,000 pins, nets of two pins.
 #
 # Usage: bench/route.sh PROGRAM [SECONDS [PROBE]]      (a run that takes longer than SECONDS, 300 at first, is cut off)
 #        bench/route.sh - SECONDS PROBE                the routing alone
 #
 # GATES in the environment is another list of numbers, METALS another number than 6, ROWS so many rows in place of as many as make the
-# block about square, FANOUT another number than 32; an empty COURSES leaves the circuits of courses out. PROBES is another list of words
-# for PROBE, a run a line.
+# block about square, FANOUT another number than 32; an empty COURSES leaves the circuits of courses out. CELLS and EXPONENTS are other
+# lists for rent_netlist.py, whose seed is SEED, 1 at first. BESIDE is another number of cells, up to which qrouter and graywolf run. PROBES
+# is another list of words for PROBE, a run a line.
 #
-# Columns of PROBE: its words; nodes of the grid, nets, and their points; whether all are routed, or the net and the point at which one is
+# All seconds are those of the processor, but for the limit. Columns of PROBE: its words; nodes of the grid, nets, and their points; whether all are routed, or the net and the point at which one is
 # stuck; steps and vias of all paths; seconds, megabytes, and bytes at the most for a node. Where there is no net, so that each node gets
 # its marks and nothing is searched, nodes a second; where there are some, paths a second beyond that time, if a run before shows it.
 #
@@ -22,7 +24,8 @@
 # Where a net is stuck the numbers are those of NAME_part.ap. Wires and nodes are counted by route.py, the second router's reading. Then of
 # placing alone: hp, the length of the placement in steps (half perimeters, docs/formats/blocks.md); how long it is with `--moves 0`, where
 # only neighbours are exchanged; the processor's seconds of ocp, on the netlist of the layout; hp of graywolf's rows, drawn by our rules with the ports
-# in our columns; hp over the points where graywolf has them; its seconds.
+# in our columns; hp over the points where graywolf has them; its seconds. For netlists of cells there is no run with tracks, and the
+# seconds and megabytes over rows are those of nero alone.
 set -eu
 
 program=${1:-}
@@ -49,7 +52,7 @@ bare_grid=- bare_took=-
 # probed KIND METALS COLUMNS ROWS NUMBER SEED: runs PROBE with these words and prints the row.
 probed() {
   local took memory cells bare=- grid="$2 $3 $4"
-  read -r took memory < <(measured printed "$probe" "$@")
+  read -r took memory < <(spent printed "$probe" "$@")
   if [ "$5" = 0 ]; then
     bare_grid=$grid bare_took=$took
   elif [ "$grid" = "$bare_grid" ]; then
@@ -95,16 +98,13 @@ routed() {
   local tracks tracks_memory took memory laid=r.ap nodes=- done=- nets=- steps=- vias=- saved=- bytes=- q_took=- q_steps=- q_vias=- q_left=-
   local hp=- descent=- ocp_took=- g_hp=- g_own=- g_took=-
   rm -f t.ap r.ap r_part.ap n.vst
-  read -r tracks tracks_memory < <(measured printed "$program" flow "$2" -l lib -o t --tracks --fanout "$fanout")
-  read -r took memory < <(measured_any printed "$program" flow "$2" -l lib -o r "${rows[@]}" --metals "$metals" --fanout "$fanout")
+  read -r tracks tracks_memory < <(spent printed "$program" flow "$2" -l lib -o t --tracks --fanout "$fanout")
+  read -r took memory < <(spent printed "$program" flow "$2" -l lib -o r "${rows[@]}" --metals "$metals" --fanout "$fanout")
   [ -f r.ap ] || laid=r_part.ap
   if [ -f "$laid" ]; then
     read -r nodes done nets steps vias saved < <(python3 "$here/route.py" "$laid" lib t.ap "$metals")
     bytes=$(awk -v a="$tracks_memory" -v b="$memory" -v n="$nodes" 'BEGIN { if (a + 0 > 0 && b + 0 > 0 && n + 0 > 0) printf "%.1f", (b - a) * 1024 / n; else print "-" }')
-    if [ -n "$qrouter" ]; then
-      read -r q_took q_steps q_vias q_left < <(timeout "$most" python3 "$here/route_beside.py" "$laid" lib "$metals" "$qrouter" || echo - - - -)
-    fi
-    read -r hp g_hp g_own g_took < <(python3 "$here/place_beside.py" "$laid" lib "${graywolf:+timeout $most }${graywolf:--}" n.vst || echo - - - -)
+    beside "$laid"
     ocp_alone
   fi
   printf "$row" "$1" "$tracks" "$(megabytes "$tracks_memory")" "$took" "$(megabytes "$memory")" "$nodes" "$bytes" "$done" "$nets" "$steps" "$vias" \
@@ -123,12 +123,33 @@ ocp_alone() {
   descent=$(steps_of printed)
 }
 
-# measured_any OUT WORDS..: as measured, and also where the run ends with status 6, a net being stuck.
-measured_any() {
-  local out=$1 status=0
-  shift
-  timeout "$most" /usr/bin/time -q -f '%e %M' -o times "$@" >"$out" 2>errors || status=$?
-  [ "$status" = 0 ] || [ "$status" = 6 ] && tail -1 times || echo "- -"
+# beside FILE: qrouter and graywolf on a layout that isn't too large for them.
+beside() {
+  local router=$qrouter tool=$graywolf
+  [ "$(grep -c '^I ' "$1")" -le "${BESIDE:-3000}" ] || router='' tool=''
+  if [ -n "$router" ]; then
+    read -r q_took q_steps q_vias q_left < <(timeout "$most" python3 "$here/route_beside.py" "$1" lib "$metals" "$router" || echo - - - -)
+  fi
+  read -r hp g_hp g_own g_took < <(python3 "$here/place_beside.py" "$1" lib "${tool:+timeout $most }${tool:--}" n.vst || echo - - - -)
+}
+
+# rent CELLS EXPONENT: places and routes a netlist of cells, and prints the row.
+rent() {
+  local took memory laid=r.ap nodes=- done=- nets=- steps=- vias=- q_took=- q_steps=- q_vias=- q_left=-
+  local hp=- descent=- ocp_took=- g_hp=- g_own=- g_took=-
+  rm -f o.ap r.ap r_part.ap
+  python3 "$here/rent_netlist.py" "$1" "$2" "${SEED:-1}" >n.vst
+  read -r _ memory < <(spent printed "$program" ocp n.vst -l lib -o o "${rows[@]}" --moves 0)
+  descent=$(steps_of printed)
+  read -r ocp_took memory < <(spent printed "$program" ocp n.vst -l lib -o o "${rows[@]}")
+  read -r took memory < <(spent printed "$program" nero n.vst -p o.ap -l lib -o r --metals "$metals")
+  [ -f r.ap ] || laid=r_part.ap
+  if [ -f "$laid" ]; then
+    read -r nodes done nets steps vias < <(python3 "$here/route.py" --netlist n.vst "$laid" lib "$metals")
+    beside "$laid"
+  fi
+  printf "$row" "$1 cells $2" - - "$took" "$(megabytes "$memory")" "$nodes" - "$done" "$nets" "$steps" "$vias" - \
+    "$q_took" "$q_steps" "$q_vias" "$q_left" "$hp" "$descent" "$ocp_took" "$g_hp" "$g_own" "$g_took"
 }
 
 printf "$row" '' tracks '' rows '' '' bytes nets '' '' '' '' qrouter '' '' '' placing moves ocp graywolf '' ''
@@ -157,4 +178,9 @@ course_circuits.py machine 40}"
 for gates in ${GATES-50 100 250 500 1000 2000 4000 8000 16000}; do
   python3 "$here/asimut_inputs.py" "$gates" 1 "$work" --blocks
   routed "$gates gates" c.vbe
+done
+for cells in ${CELLS-1000 3000 10000}; do
+  for exponent in ${EXPONENTS-0.6 0.7}; do
+    rent "$cells" "$exponent"
+  done
 done

@@ -3,16 +3,16 @@
 
 Usage: bench/route_beside.py LAYOUT.ap LIBRARY METALS QROUTER
 
-Prints on one line: seconds, the length of wires in steps of 500, vias but for those on pins, nets that it left unrouted. Of each pin it
+Prints on one line: seconds of the processor, the length of wires in steps of 500, vias but for those on pins, nets that it left unrouted. Of each pin it
 sees a square at its access node, and the rest of a cell's metal 1 as taken. Coordinates are those of the layout, a thousandth of a micron
 each.
 """
 import pathlib
 import re
+import resource
 import subprocess
 import sys
 import tempfile
-import time
 
 sys.path.append(str(pathlib.Path(__file__).resolve().parent))
 from route import block_of  # noqa: E402
@@ -120,14 +120,13 @@ def main():
         room = pathlib.Path(folder)
         (room / "tech.lef").write_text(lef(block, metals))
         (room / "block.def").write_text(design(block, metals))
-        begin = time.monotonic()
         how = {"cwd": room, "input": COMMANDS.format(metals), "stdout": subprocess.PIPE, "stderr": subprocess.STDOUT, "text": True}
         done = subprocess.run([sys.argv[4], "-nog"], **how)
-        seconds = time.monotonic() - begin
+        used = resource.getrusage(resource.RUSAGE_CHILDREN)
         if not (room / "out.def").exists():
             sys.exit(f"qrouter wrote nothing: {done.stdout[-400:]}")
         left = re.findall(r"Failed net routes: (\d+)", done.stdout)
-        print(f"{seconds:.2f}", *routed((room / "out.def").read_text()), left[-1] if left else 0)
+        print(f"{used.ru_utime + used.ru_stime:.2f}", *routed((room / "out.def").read_text()), left[-1] if left else 0)
 
 
 if __name__ == "__main__":

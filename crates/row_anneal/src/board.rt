@@ -1,4 +1,5 @@
 // Rows of cells, and where each cell stands.
+use crate::ledger::{Ledger, counts};
 use crate::total::{at, cell_at, number, put, quotient};
 use row_meaning::{Cells, Pin};
 use std::alloc::{AllocError, Global};
@@ -9,9 +10,6 @@ pub(crate) const PITCH: u64 = 500;
 /// How high a row is.
 pub(crate) const HEIGHT: u64 = 5000;
 
-/// Nets of more pins are left out.
-const MOST_PINS: usize = 100;
-
 /// Where a cell stands: its row, its place in the row, and where it begins.
 #[derive(Clone, Copy)]
 pub(crate) struct Spot {
@@ -20,8 +18,17 @@ pub(crate) struct Spot {
     pub(crate) start: u64,
 }
 
-/// Rows of cells with their widths, how wide a row may get, where each cell stands, the cells that stand in rows, and for each cell the
-/// nets of its pins. A net is marked by the number of the last sum that it was taken into.
+/// Cells of a row from one place to before another, the first of which begins at `start`.
+#[derive(Clone, Copy)]
+pub(crate) struct Stretch {
+    pub(crate) row: usize,
+    pub(crate) first: usize,
+    pub(crate) end: usize,
+    pub(crate) start: u64,
+}
+
+/// Rows of cells with their widths, how wide a row may get, where each cell stands, the cells that stand in rows, for each cell the nets of
+/// its pins, and how long the nets are.
 #[derive(Drop)]
 pub(crate) struct Board {
     pub(crate) rows: Vec<Vec<u32>>,
@@ -30,8 +37,7 @@ pub(crate) struct Board {
     pub(crate) spots: Vec<Spot>,
     pub(crate) members: Vec<u32>,
     pub(crate) nets_of: Vec<Vec<u32>>,
-    pub(crate) marks: Vec<u64>,
-    pub(crate) sums: u64,
+    pub(crate) ledger: Ledger,
 }
 
 /// Where a cell stands; at the beginning of the lowest row, where it stands in none.
@@ -53,13 +59,13 @@ pub(crate) fn put_spot(spots: &mut [Spot], cell: usize, spot: Spot) {
     }
 }
 
-/// Puts down where the cells of a row stand, from a spot on. Gives where the row ends.
-fn settle_row(spots: &mut [Spot], row: &[u32], widths: &[u64], first: Spot) -> u64 {
-    let mut start = first.start;
-    for place in first.place..row.len() {
+/// Puts down where the cells of a stretch of a row stand, each right behind the one before. Gives where it ends.
+fn settle_row(spots: &mut [Spot], row: &[u32], widths: &[u64], stretch: Stretch) -> u64 {
+    let mut start = stretch.start;
+    for place in stretch.first..stretch.end.min(row.len()) {
         let cell = cell_at(row, place);
         let spot = Spot {
-            row: first.row,
+            row: stretch.row,
             place,
             start,
         };
@@ -69,14 +75,47 @@ fn settle_row(spots: &mut [Spot], row: &[u32], widths: &[u64], first: Spot) -> u
     start
 }
 
-impl Board {
-    /// Puts down where the cells of a row stand, from a spot on, and how wide the row is.
-    pub(crate) fn settle(&mut self, cells: &Cells, first: Spot) {
-        if first.row < self.rows.len() {
-            let row = &self.rows[first.row];
-            let end = settle_row(&mut self.spots, row, &cells.widths, first);
-            put(&mut self.wide, first.row, end.saturating_sub(cells.left));
+/// Puts down at which places the cells of a row stand, from a place on.
+fn number_row(spots: &mut [Spot], row: &[u32], first: usize) {
+    for place in first..row.len() {
+        let cell = cell_at(row, place);
+        if cell < spots.len() {
+            spots[cell].place = place;
         }
+    }
+}
+
+impl Board {
+    /// Puts down where the cells of a stretch stand. Gives where it ends.
+    pub(crate) fn settle(&mut self, cells: &Cells, stretch: Stretch) -> u64 {
+        if stretch.row < self.rows.len() {
+            let row = &self.rows[stretch.row];
+            settle_row(&mut self.spots, row, &cells.widths, stretch)
+        } else {
+            stretch.start
+        }
+    }
+
+    /// Puts down at which places the cells of a row stand, from a place on.
+    pub(crate) fn number_places(&mut self, row: usize, first: usize) {
+        if row < self.rows.len() {
+            number_row(&mut self.spots, &self.rows[row], first);
+        }
+    }
+
+    /// Has the cells of each row stand close together, and measures all nets anew. Takes time for each cell and each pin.
+    pub(crate) fn pack(&mut self, cells: &Cells) {
+        for row in 0..self.rows.len() {
+            let whole = Stretch {
+                row,
+                first: 0,
+                end: usize::MAX,
+                start: cells.left,
+            };
+            let end = self.settle(cells, whole);
+            put(&mut self.wide, row, end.saturating_sub(cells.left));
+        }
+        self.ledger.renew(&self.spots, &cells.nets);
     }
 
     /// How many cells a row has.
@@ -132,7 +171,7 @@ fn nets_of(alloc: Global, cells: &Cells) -> Result<Vec<Vec<u32>>, AllocError> {
     }
     for net in 0..cells.nets.len() {
         let pins = &cells.nets[net];
-        if pins.len() > 1 && pins.len() <= MOST_PINS {
+        if counts(pins.len()) {
             list_net(&mut lists, pins, number(net))?;
         }
     }
@@ -175,17 +214,9 @@ impl Board {
             spots: vec![in alloc; nowhere; cells.widths.len()]?,
             members,
             nets_of: nets_of(alloc, cells)?,
-            marks: vec![in alloc; 0; cells.nets.len()]?,
-            sums: 0,
+            ledger: Ledger::begin(alloc, cells.nets.len())?,
         };
-        for row in 0..rows.len() {
-            let first = Spot {
-                row,
-                place: 0,
-                start: cells.left,
-            };
-            board.settle(cells, first);
-        }
+        board.pack(cells);
         Ok(board)
     }
 }

@@ -1,5 +1,7 @@
-// Simulated annealing in whole numbers.
-use crate::board::{Board, HEIGHT, PITCH, Spot, copied, spot_of};
+// Simulated annealing in whole numbers (Kirkpatrick, Gelatt and Vecchi 1983; of cells in rows: Sechen and Sangiovanni-Vincentelli's
+// TimberWolf, 1985). How fast it cools and how far cells go hang on the share of moves that are accepted, which is to stay near a fixed one
+// (Lam and Delosme 1988).
+use crate::board::{Board, PITCH, Spot, copied, spot_of};
 use crate::change::Change;
 use crate::total::{at, below, between, cell_at, quotient};
 use rand_core::SeedableRng;
@@ -8,11 +10,29 @@ use rand_pcg::Pcg32;
 use row_meaning::Cells;
 use std::alloc::{AllocError, Global};
 
-/// How many moves a level has for each cell.
-const MOVES: usize = 30;
+/// About how many moves a level has in all, and for each cell at least and at most.
+const MOVES: usize = 150_000;
+
+const LEAST_MOVES: usize = 25;
+
+const MOST_MOVES: usize = 200;
+
+/// The most levels.
+const LEVELS: u32 = 1000;
 
 /// The whole of the rows, as a window.
 const WHOLE: u64 = 65536;
+
+/// How many of 256 moves are to be accepted.
+const WANTED: u64 = 90;
+
+/// The heat below which shifted cells count, and the heat at which all is frozen.
+const COOL: u64 = 15 * PITCH;
+
+const FROZEN: u64 = PITCH / 5;
+
+/// Cells in one row that are no further from each other are always exchanged with those between them shifted.
+const NEAR: usize = 6;
 
 /// A level: how much longer nets may get, about; how far a cell goes, as a part of `WHOLE`; and whether shifted cells count.
 #[derive(Clone, Copy)]
@@ -74,7 +94,7 @@ fn choose(board: &Board, cells: &Cells, window: u64, generator: &mut Pcg32) -> C
         .row
         .saturating_add(reach)
         .min(board.rows.len().saturating_sub(1));
-    let row = between(v / 4, from.row.saturating_sub(reach), top);
+    let row = between(v / 8, from.row.saturating_sub(reach), top);
     let many = board.places(row);
     let near = quotient(
         (from.place as u64).saturating_mul(many as u64),
@@ -84,73 +104,125 @@ fn choose(board: &Board, cells: &Cells, window: u64, generator: &mut Pcg32) -> C
     let end = near.saturating_add(reach).min(many);
     let place = between(w, near.saturating_sub(reach), end);
     let start = start_at(board, cells, row, place);
-    change_to(board, cells, cell, Spot { row, place, start }, v % 4 == 0)
+    change_to(board, cells, cell, Spot { row, place, start }, v % 8 == 0)
 }
 
-/// Says whether a change is none.
-fn is_none(change: Change) -> bool {
-    change.cell == change.other && (change.back || change.from.row == change.to.row)
+/// What a move does: nothing; or two cells change places, or one goes elsewhere; or so that others behind it have to be shifted yet.
+#[derive(Clone, Copy)]
+enum Outcome {
+    Stays,
+    Changes,
+    Shifts,
 }
 
-/// One move. Says whether something changed.
+/// Says whether the cells between or behind those of a change are to be shifted with it.
+fn shifts_at_once(level: Level, change: Change) -> bool {
+    match change.distance() {
+        Some(distance) => level.exact || distance <= NEAR,
+        None => level.exact,
+    }
+}
+
+/// One move: it is made where the nets of its cells get longer by no more than a random amount.
 fn try_move(
     board: &mut Board,
     cells: &Cells,
     level: Level,
     generator: &mut Pcg32,
-) -> Result<bool, AllocError> {
+) -> Result<Outcome, AllocError> {
     let change = choose(board, cells, level.window, generator);
     let most = most_by(generator.next_word(), level.heat);
-    if is_none(change) || !board.has_room(&cells.widths, change) {
-        return Ok(false);
+    if change.is_none() || !board.has_room(&cells.widths, change) {
+        return Ok(Outcome::Stays);
     }
-    let lengths = board.estimate(cells, change);
-    if lengths.after > lengths.before.saturating_add(most) {
-        return Ok(false);
+    board.move_spots(change);
+    board.measure_two(cells, change)?;
+    if !board.ledger.is_within(most) {
+        board.move_spots(change.turned());
+        return Ok(Outcome::Stays);
     }
-    let alike = change.back && at(&cells.widths, change.cell) == at(&cells.widths, change.other);
-    if level.exact && !alike {
-        return board.make_within(cells, change, most);
+    board.arrange(cells, change)?;
+    if change.back && at(&cells.widths, change.cell) == at(&cells.widths, change.other) {
+        board.ledger.keep();
+        return Ok(Outcome::Changes);
     }
-    board.make(cells, change)?;
-    Ok(true)
+    shift(board, cells, level, change, most)
 }
 
-/// So many moves for each cell. Gives how many of 256 changed something.
+/// The rest of a move after which other cells have to be shifted: at once, or later together with others.
+fn shift(
+    board: &mut Board,
+    cells: &Cells,
+    level: Level,
+    change: Change,
+    most: u64,
+) -> Result<Outcome, AllocError> {
+    if !shifts_at_once(level, change) {
+        board.ledger.keep();
+        return Ok(Outcome::Shifts);
+    }
+    if board.shift_within(cells, change, most)? {
+        Ok(Outcome::Changes)
+    } else {
+        Ok(Outcome::Stays)
+    }
+}
+
+/// The moves of a level. Where a quarter as many as there are cells have left others to be shifted, all are packed. Gives how many of 256
+/// changed something.
 fn run_level(
     board: &mut Board,
     cells: &Cells,
     level: Level,
     generator: &mut Pcg32,
 ) -> Result<u64, AllocError> {
-    let moves = board.members.len().saturating_mul(MOVES);
+    let many = board.members.len();
+    let each = quotient(MOVES as u64, many as u64) as usize;
+    let moves = many.saturating_mul(each.clamp(LEAST_MOVES, MOST_MOVES));
     let mut made: u64 = 0;
+    let mut loose: usize = 0;
     for _ in 0..moves {
-        if try_move(board, cells, level, generator)? {
-            made = made.saturating_add(1);
+        match try_move(board, cells, level, generator)? {
+            Outcome::Stays => {}
+            Outcome::Changes => made = made.saturating_add(1),
+            Outcome::Shifts => {
+                made = made.saturating_add(1);
+                loose = loose.saturating_add(1);
+            }
+        }
+        if loose > many / 4 {
+            board.pack(cells);
+            loose = 0;
         }
     }
+    board.pack(cells);
     Ok(quotient(made.saturating_mul(256), moves as u64))
 }
 
-/// An eighth of the width of a row and the height of all together.
-fn first_heat(board: &Board) -> u64 {
-    let height = (board.rows.len() as u64).saturating_mul(HEIGHT);
-    board.limit.saturating_add(height) / 8
+/// How much colder the next level is, where so many of 256 moves changed something: slowest where about as many are as should be.
+fn cooled(heat: u64, made: u64) -> u64 {
+    if made > 246 {
+        heat / 2
+    } else if made > 204 {
+        heat - heat / 10
+    } else if made > 38 {
+        heat - heat / 20
+    } else {
+        heat - heat / 5
+    }
 }
 
-/// The heat below which shifted cells count: that takes time for each cell of a row, so it is lower where there are many.
-fn late_heat(board: &Board, first: u64) -> u64 {
-    quotient(first, board.members.len() as u64 / 400 + 4)
-}
-
-/// The next level: somewhat colder, and the window narrower where fewer than 56 of 256 moves changed something.
-fn next(level: Level, made: u64, late: u64) -> Level {
-    let heat = level.heat - level.heat / 16;
+/// The next level: somewhat colder, and the window narrower where fewer moves changed something than should, and else wider.
+fn next(level: Level, made: u64) -> Level {
+    let heat = cooled(level.heat, made);
+    let window = level
+        .window
+        .saturating_mul(made.saturating_add(256 - WANTED))
+        / 256;
     Level {
         heat,
-        window: (level.window.saturating_mul(made.saturating_add(200)) / 256).min(WHOLE),
-        exact: heat < late,
+        window: window.min(WHOLE),
+        exact: heat < COOL,
     }
 }
 
@@ -164,19 +236,17 @@ pub fn anneal(
 ) -> Result<Vec<Vec<u32>>, AllocError> {
     let mut board = Board::begin(alloc, rows, cells)?;
     let mut generator = Pcg32::seed_from_u64(u64::from(seed));
-    let heat = first_heat(&board);
-    let late = late_heat(&board, heat);
     let mut level = Level {
-        heat,
+        heat: board.ledger.mean() / 2,
         window: WHOLE,
         exact: false,
     };
-    for _ in 0..1000 {
-        if level.heat < PITCH {
+    for _ in 0..LEVELS {
+        if level.heat < FROZEN {
             break;
         }
         let made = run_level(&mut board, cells, level, &mut generator)?;
-        level = next(level, made, late);
+        level = next(level, made);
     }
     let last = Level {
         heat: 0,

@@ -5,7 +5,7 @@ mod board;
 mod change;
 mod cooling;
 mod fair;
-mod lengths;
+mod ledger;
 mod total;
 
 pub use cooling::anneal;
