@@ -59,7 +59,7 @@ pub fn steps(
     let mut work = Work::new(alloc, cells, areas, gates, marks, roots)?;
     let mut steps = Vec::new(alloc);
     let nodes = work.net.nodes();
-    let mut idle = 0;
+    let mut idle: u32 = 0;
     for pass in 0..PASSES {
         let before = work.gained;
         for count in 0..nodes {
@@ -72,7 +72,11 @@ pub fn steps(
                 improve(&mut work, &mut steps, cells, areas, node, pass)?;
             }
         }
-        idle = if work.gained > before { 0 } else { idle + 1 };
+        idle = if work.gained > before {
+            0
+        } else {
+            idle.saturating_add(1)
+        };
         if idle >= IDLE {
             break;
         }
