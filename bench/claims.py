@@ -26,7 +26,7 @@ TOP = pathlib.Path(__file__).resolve().parent.parent
 ROOTS = "docs|crates|acceptance|bench|share|install|examples|cells"
 PAGES = [TOP / "README.md", *sorted((TOP / "docs").rglob("*.md")), *sorted(TOP.glob("cells/*.md")), *sorted(TOP.glob("examples/*/*.md")),
          *sorted(TOP.glob("acceptance/*/*.md"))]
-CODE = (".rt", ".antt", ".py", ".sh", ".txt", ".vbe", ".fsm", ".edit", ".toml", "")
+CODE = (".rt", ".antt", ".py", ".sh", ".txt", ".vbe", ".fsm", ".v", ".vhd", ".edit", ".toml", "")
 
 CLAUSES = re.compile(r"((?:`\w+`(?:, )?)+) of |the clauses? of ")
 FUNCTION = re.compile(r"`(\w+)::(\w+)(?:::(\w+))?`")
