@@ -104,12 +104,12 @@ module _ (cells : List CellWord) (held : ℕ) (nodes : List Node) (first second 
   ]
 
   marked : (marks : List Bool) → ReadMarked second marks → (a x : ℕ) → ReadsThrough second a x → IsMarked marks x
-  marked marks read a x (pin h) = read a x h
-  marked marks read a x (through {b = b} s t) = marked marks read b x t
+  marked marks reading a x (pin h) = reading a x h
+  marked marks reading a x (through {b = b} s t) = marked marks reading b x t
 
   pub narrowed : (last : List (Option Gate)) (marks : List Bool) → AllNeeded held nodes roots marks → ReadMarked second marks
       → leaf_count second ≤ 2 * length nodes → Keeps cells held roots second last → IsTight cells last roots → IsCovered cells held nodes roots last
-  narrowed last marks needed read few keeps tight = record {
+  narrowed last marks needed reading few keeps tight = record {
     long = keeps.long ∙ pruned.long ∙ whole.many;
     given = λ a low. keeps.fewer a (given_second a low);
     cover = keeps.cover;
@@ -120,7 +120,7 @@ module _ (cells : List CellWord) (held : ℕ) (nodes : List Node) (first second 
       | inl by_root ↦ root by_root
       | inr none ↦
           let by = used_by a last (omega (arith, some, none)) in
-          needed a (marked marks read by.0 a (keeps.read by.0 a by.1))
+          needed a (marked marks reading by.0 a (keeps.read by.0 a by.1))
     ];
     few = let pins = keeps.pins in omega (arith, pins, few);
   }

@@ -1,5 +1,5 @@
 // A cover of a graph.
-ghost use Rattle.std.specs.Prelude.{◌≡◌, ◌⊎◌, ◌<◌, ◌≤◌, ◌+◌, ◌^◌, ℕ, List, map, length, Option, Some, None, slice_index, IfOk};
+ghost use Rattle.std.specs.Prelude.{◌≡◌, ◌⊎◌, ◌<◌, ◌≤◌, ◌+◌, ◌^◌, ℕ, List, map, length, Option, Some, None, slice_index, IfOk, IfSome};
 ghost use Rattle.graph_theory.specs.Graph.{EachReadsEarlier};
 ghost use Rattle.cell_match.specs.declared.gate.Gate.{Gate};
 ghost use Rattle.cell_match.specs.Places.{times};

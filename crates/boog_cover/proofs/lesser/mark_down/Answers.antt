@@ -1,4 +1,4 @@
-use Rattle.std.proofs.Common.{◌+◌, ◌-◌, ◌<◌, length, map, slice_index_or, arith}
+use Rattle.std.proofs.Common.{◌+◌, ◌-◌, ◌<◌, false, length, map, slice_index_or, arith}
 use Rattle.graph_theory.proofs.Values.{reads_at}
 use Rattle.subject_table.specs.View.{node_view}
 use Rattle.subject_table.specs.declared.table.Node.TheVariants as kind
