@@ -22,9 +22,7 @@ use Rattle.net_core.proofs.Finishing.{netlist_terminals_once}
 use Rattle.net_meaning.specs.Netlist.{AbstractNetlist}
 use Rattle.net_theory.specs.Sources.{IsNumber}
 use Rattle.net_theory.proofs.Basics.{length-map, listed, length-listed, bit-listed}
-use Rattle.net_right.specs.View.{IsSeenAs}
-use Rattle.net_bits.specs.Seen.{seen}
-use Rattle.net_bits.proofs.Seen.{seen_is}
+use Rattle.net_right.specs.View.{IsSeenAs, netlist_by}
 use Rattle.net_right.specs.Right.{IsRightNetlist, HasPinsOfCells}
 use Rattle.cell_match.specs.declared.gate.Gate.{Gate}
 use Rattle.boog_cover.specs.Covered.{IsCovered}
@@ -51,6 +49,75 @@ use Rattle.boog_map.proofs.Carrying.{tight}
 use Rattle.boog_map.proofs.Driven.{told}
 use Rattle.boog_map.proofs.Drawable.{drawable, instances_are, signals_are, few_count, few_pins}
 use Rattle.boog_map.proofs.Seating.{maps, found, sourced}
+
+-- ---- the class of each terminal
+
+is_same_owner : Option (List ℕ) → Option (List ℕ) → Bool
+is_same_owner None None = true
+is_same_owner (Some a) (Some b) = is_same_text a b
+is_same_owner None (Some b) = false
+is_same_owner (Some a) None = false
+
+is_same_terminal : Terminal → Terminal → Bool
+is_same_terminal a b = is_same_owner a.instance b.instance && is_same_name a.pin b.pin
+
+owner_same : (a b : Option (List ℕ)) → is_same_owner a b ≡ true → a ≡ b
+unfolding is_same_owner
+owner_same None None h = refl
+owner_same (Some a) (Some b) h = ap Some (text_same a b h)
+owner_same None (Some b) h = absurd (cc h)
+owner_same (Some a) None h = absurd (cc h)
+
+owner_itself : (a : Option (List ℕ)) → is_same_owner a a ≡ true
+unfolding is_same_owner
+owner_itself None = refl
+owner_itself (Some a) = text_itself a
+
+both : (a b : Bool) → (a && b) ≡ true → (a ≡ true) × (b ≡ true)
+both true true h = (refl, refl)
+both true false h = absurd (cc h)
+both false b h = absurd (cc h)
+
+terminal_same : (a b : Terminal) → is_same_terminal a b ≡ true → a ≡ b
+unfolding is_same_terminal
+terminal_same a b h =
+    let p = both (is_same_owner a.instance b.instance) (is_same_name a.pin b.pin) h in
+    let made : Option (List ℕ) → Name → Terminal = λ o x. record { instance = o; pin = x } in
+    ap (λ (o : Option (List ℕ)). made o a.pin) (owner_same a.instance b.instance p.0) ∙ ap (made b.instance) (same_name-true a.pin b.pin p.1)
+
+terminal_itself : (a : Terminal) → is_same_terminal a a ≡ true
+unfolding is_same_terminal
+terminal_itself a = rw (owner_itself a.instance, same_name-itself a.pin) refl
+
+class_at : List Terminal → List ℕ → Terminal → ℕ
+class_at [] ks t = 0
+class_at (u ∷ us) [] t = 0
+class_at (u ∷ us) (k ∷ ks) t = if is_same_terminal u t then k else class_at us ks t
+
+class_is : (us : List Terminal) (ks : List ℕ) (t : Terminal) (i k : ℕ) → NoneTwice us → Stands us i t → Stands ks i k → class_at us ks t ≡ k
+unfolding class_at
+class_is [] ks t i k once p q = absurd cc
+class_is (u ∷ us) [] t i k once p q = absurd cc
+class_is (u ∷ us) (c ∷ ks) t i k once p q = by (λ i p q. class_is us ks t i k later p q) (is_same_terminal u t) refl i p q where
+  later : NoneTwice us
+  later x y z a b = let h : suc x ≡ suc y = once (suc x) (suc y) z a b in omega (arith, h)
+
+  by : ((i : ℕ) → Stands us i t → Stands ks i k → class_at us ks t ≡ k) → (b : Bool) → is_same_terminal u t ≡ b → (i : ℕ) → Stands (u ∷ us) i t → Stands (c ∷ ks) i k → (if b then c else class_at us ks t) ≡ k
+  by rest true e zero p q = cc
+  by rest true e (suc i) p q =
+      let same : u ≡ t = terminal_same u t e in
+      let twice : suc i ≡ 0 = once (suc i) 0 t p (ap Some same) in absurd (omega (arith, twice))
+  by rest false e zero p q = let same : u ≡ t = cc in absurd (let yes = subst (λ (x : Terminal). is_same_terminal u x ≡ true) same (terminal_itself u) in let no : true ≡ false = sym yes ∙ e in cc)
+  by rest false e (suc i) p q = rest i p q
+
+abbrev class_of : InMemory → Terminal → ℕ
+class_of n t = class_at (terminals n) n.classes t
+
+seen_by : (n : InMemory) → IsNetlist n → IsSeenAs n (netlist_by (class_of n) n)
+seen_by n sound = record {
+  is = refl;
+  classes = record { each = λ t k h. class_is (terminals n) n.classes t h.0 k (netlist_terminals_once n sound) h.1 h.2 };
+}
 
 -- ---- the netlist
 
@@ -85,18 +152,18 @@ module _ (m : Machine) (checked : IsChecked m) (g : Graph) (sub : IsSubjectGraph
 
     right : IsRightNetlist n l m
     right =
-        let x = seen n in
-        let view = seen_is n sound in
+        let x = netlist_by (class_of n) n in
+        let seen = seen_by n sound in
         record {
           name = finished.name;
           ports = finished.ports;
-          sourced = sourced m checked g sub l passed ps parts gs cov k.drivers sk.drivers n sound finished.ports instances_is joined x view;
-          seen = view;
+          sourced = sourced m checked g sub l passed ps parts gs cov k.drivers sk.drivers n sound finished.ports instances_is joined x seen;
+          seen = seen;
           values = graph_values g;
           roots = graph_roots g;
           shows =
-              mapped_shows (sourced m checked g sub l passed ps parts gs cov k.drivers sk.drivers n sound finished.ports instances_is joined x view) l m g sub.apart
-              (maps_it x view);
+              mapped_shows (sourced m checked g sub l passed ps parts gs cov k.drivers sk.drivers n sound finished.ports instances_is joined x seen) l m g sub.apart
+              (maps_it x seen);
           means = graph_means m g sub.graph;
         }
 

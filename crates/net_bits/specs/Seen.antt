@@ -6,17 +6,17 @@ use Rattle.net_core.specs.Netlist.{Netlist as InMemory, IsNetlist, terminals}
 use Rattle.net_meaning.specs.Netlist.{AbstractNetlist}
 use Rattle.net_right.specs.View.{IsSeenAs, netlist_by}
 
-pub is_same_owner : Option (List ℕ) → Option (List ℕ) → Bool
+unfoldable pub is_same_owner : Option (List ℕ) → Option (List ℕ) → Bool
 is_same_owner None None = true
 is_same_owner (Some a) (Some b) = is_same_text a b
 is_same_owner None (Some b) = false
 is_same_owner (Some a) None = false
 
-pub is_same_terminal : Terminal → Terminal → Bool
+unfoldable pub is_same_terminal : Terminal → Terminal → Bool
 is_same_terminal a b = is_same_owner a.instance b.instance && is_same_name a.pin b.pin
 
 -- the class that stands beside the terminal, and 0 for a terminal that isn't there
-pub class_at : List Terminal → List ℕ → Terminal → ℕ
+unfoldable pub class_at : List Terminal → List ℕ → Terminal → ℕ
 class_at [] ks t = 0
 class_at (u ∷ us) [] t = 0
 class_at (u ∷ us) (k ∷ ks) t = if is_same_terminal u t then k else class_at us ks t
