@@ -8,6 +8,8 @@ from acceptance.running.places import BENCH, CELLS
 from share.formats.cellcheck import Behaviour
 
 INVERTS, FOLLOWS = ("tphl", "tplh"), ("tpll", "tphh")
+# of a flip-flop: the times from the rise of its clock, and those of its data beside it
+CLOCKED, BESIDE = ("tphl", "tphh"), ("tsr", "tsf", "thr", "thf")
 
 
 def times_of_gate(behaviour, pin):
@@ -27,7 +29,8 @@ def generics_of(behaviour):
     wanted = {f"cin_{name}" for name, _ in behaviour.inputs()}
     for pin in behaviour.inputs():
         if behaviour.machine.registers:
-            times = INVERTS if pin[0] == behaviour.machine.clock else ()
+            times = CLOCKED if pin[0] == behaviour.machine.clock else ()
+            wanted |= set() if times else {f"{word}_{pin[0]}_{behaviour.machine.clock}" for word in BESIDE}
         else:
             times = times_of_gate(behaviour, pin)
         wanted |= {f"{word}_{pin[0]}_{output}" for word in (*times, "rdown", "rup") if times}

@@ -39,7 +39,7 @@ def check_words(results):
         if name == "explain":  # its words are another program's
             continue
         ending = {"states": ".fsm", "vhdl": ".vbe", "netlist": ".vst", "recheck": ".vbe"}.get(name, ".x")
-        more = {"waves": [], "states": [], "vhdl": [], "registers": ["report"], "gds": [CELLS, START], "recheck": ["l.ap", CELLS]}.get(name, [CELLS])
+        more = {"waves": [], "states": [], "vhdl": [], "registers": ["report"], "gds": [CELLS, START], "cif": [CELLS, START], "recheck": ["l.ap", CELLS]}.get(name, [CELLS])
         words = OWN_WORDS.get(name) or (["nowhere"] if name in ("liberty", "lef", "cellcheck") else [f"nowhere{ending}", *more])
         wanted = 2 if name == "recheck" else 1
         status, out, err = ran(name, *words)
