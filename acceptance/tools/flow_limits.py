@@ -2,6 +2,8 @@
 causes at once, of which the earlier counts. What is wanted is worked by hand from docs/FORMATS.md.
 """
 
+import re
+
 from acceptance.running.results import Room, compare
 from acceptance.tools import flow, syf
 from acceptance.tools.boog import of_cells
@@ -119,7 +121,7 @@ def limits():
         yield f"a name of {count} bytes in a layout", with_wire(b"n" * count), line
     for number, line in ((NUMBER, None), (NUMBER + 1, f"number {NUMBER + 1}")):
         yield f"the number {number} in the source", of_source(source(f"o <= i after {number} ns;")), line
-        yield f"the number {number} in a behaviour", with_cell("na2_x1", "vbe", vbe.replace(b":= 8;", b":= %d;" % number, 1)), line
+        yield f"the number {number} in a behaviour", with_cell("na2_x1", "vbe", re.sub(rb":= \d+;", b":= %d;" % number, vbe, count=1)), line
     yield f"{DEPTH} parentheses", nested(DEPTH), None
     yield f"{DEPTH + 1} parentheses", nested(DEPTH + 1), f"depth {DEPTH + 1}"
     yield f"{CHAIN} operators", asserted(CHAIN), None
@@ -206,7 +208,7 @@ def source_causes(is_fsm):
 
 def causes(is_fsm):
     """The causes of a refusal in their order, each with what brings it, its status and its line."""
-    one_column = {b"500,1000,500,4000,200,i0": b"500,1000,500,2000,200,i0", b"1000,1000,1000,4000,200,i1": b"500,3000,500,4000,200,i1"}
+    one_column = {b"500,1000,500,4000,200,i0": b"500,1000,500,2000,200,i0", b"1000,1000,1000,2500,200,i1": b"500,3000,500,4000,200,i1"}
     above, wide, name = cell_file("na2_x1.ap"), cell_file("one_x0.ap"), "s.fsm" if is_fsm else "s.vbe"
     for line, other in one_column.items():
         above = above.replace(line, other)

@@ -186,7 +186,7 @@ def check_one_column(results, program):
     files = of_cells(flow.FIVE)
     figure = files["lib/na2_x1.ap"].decode()
     narrow = re.sub(r"S 500,1000,500,\d+,", "S 500,1000,500,1500,", figure)
-    narrow = re.sub(r"S 1000,1000,1000,(\d+),", r"S 500,2500,500,\1,", narrow)
+    narrow = re.sub(r"S 1000,1000,1000,(\d+),", "S 500,2500,500,4000,", narrow)
     files = {**files, "lib/na2_x1.ap": narrow.encode(), "s.vbe": (EXAMPLES / "adder/add4.vbe").read_bytes()}
     with Room() as room:
         flow.run_laid_out(results, room, program, "pins in one column, with tracks", files)
