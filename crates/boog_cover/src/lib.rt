@@ -4,7 +4,6 @@
 mod choice;
 mod graph_cover;
 mod law;
-mod lesser;
 mod needed;
 mod rounds;
 
