@@ -1,6 +1,6 @@
 #!/usr/bin/env bash
 # Measures the row library cells/ by ngspice: delays, slopes, capacitances, setup and hold. The transistors and their capacitances are those that
-# Magic extracts from each cell's real layout, which `s2r` makes by the table of examples/real for SCN6M_SUBM. docs/CHARACTERISATION.md
+# Magic extracts from each cell's real layout, which `share/cif` makes by the table of examples/real for SCN6M_SUBM. docs/CHARACTERISATION.md
 # says what is measured, and by which models.
 #
 # Usage: bench/characterise.sh PROGRAM             writes bench/cell_numbers.csv and cells/timing.csv
@@ -47,7 +47,7 @@ if [ -z "$extracted" ]; then
   trap 'rm -rf "$extracted"' EXIT
   names=$(awk '$2 == "C" { print $1 }' cells/CATAL)
   for name in $names; do
-    "$program" s2r "cells/$name.ap" -p examples/real/scn6m_subm.real -l cells -o "$extracted/$name" >/dev/null
+    share/cif "cells/$name.ap" cells examples/real/scn6m_subm.real >"$extracted/$name.cif"
   done
   extraction $names >"$extracted/run.tcl"
   if ! (cd "$extracted" && magic -dnull -noconsole -rcfile /dev/null -T "$rules" run.tcl >log 2>&1 </dev/null); then
