@@ -9,7 +9,7 @@ for a probe that isn't there is skipped with a line. Run are the cases of crates
 again with a folder in the place of every file that it reads or writes, with that file missing, and with a full output; each tool where
 something of the machine fails (tools/real_faults.py); the second readers on the same cases; and then the texts that each tool's module makes.
 Each language has one second reader, written from docs/FORMATS.md in this language; nothing that a program printed is wanted of it. What the
-documents name is looked up too, by bench/claims.py, and bench/headline.py has to write docs/HEADLINE.md as it stands. The commands of README,
+documents name is looked up too, by bench/claims.py, and bench/headline.py has to write the headline's pages as they stand. The commands of README,
 TOUR and other pages are run and compared with what the pages show, and the programs of share/ are tried. The row library is looked at
 below metal 1, and where Magic and Netgen are installed, so is the real layout of a counter.
 
