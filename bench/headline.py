@@ -2,7 +2,7 @@
 """Writes the pages of the headline, of the tree as it stands:
 
 - docs/HEADLINE.md: the theorem in words, as README has it, and as the clauses of the top call, and the definitions that matter most;
-- docs/HEADLINE-DEFINITIONS.md: these, and all others on which the clauses rest, but for what they say of inputs;
+- docs/HEADLINE-DEFINITIONS.md: these, and the others on which the clauses rest, but for what they say of inputs;
 - docs/HEADLINE-CAUSES.md: when each status of `flow` comes and what it leaves, with the evidence of a stuck net;
 - build/HEADLINE-INPUTS.md, which isn't kept: which words are a command, which bytes a source and a library.
 

@@ -5,9 +5,9 @@ LEFT_TO_INPUTS = ["command_of", "flow_of", "AreRead", "IsSourceFor"]
 
 HEAD = """# The headline
 
-The theorem on `flow`, in words and as it is proved, and the definitions that matter most. Whoever agrees with the clauses and with
-[all definitions](HEADLINE-DEFINITIONS.md) on which they rest, and trusts what [what is tested](TESTED.md) lists under Trusted, need read no
-code and no proof: `rt ci` proves the clauses. All is said of runs over files and output in memory.
+The theorem on `flow`, in words and as it is proved, and the definitions that matter most. Whoever agrees with the clauses and with the
+definitions on which they rest (the last heading says where all stand), and trusts what [what is tested](TESTED.md) lists under Trusted, need
+read no code and no proof: `rt ci` proves the clauses. All is said of runs over files and output in memory.
 
 ## In words
 
@@ -34,13 +34,13 @@ In the order in which to read them: a line on each, and where it stands. All oth
 TAIL = """
 ## The other pages
 
-[All definitions](HEADLINE-DEFINITIONS.md) on which the two clauses rest: these first, crate by crate, with how to read them.
-[The causes](HEADLINE-CAUSES.md) have when each status of `flow` comes and what it leaves, with the evidence of a net that is stuck. What is
-left out of both is which words spell a command, and which bytes a source and a library: `bench/headline.py` writes a page of it,
-`build/HEADLINE-INPUTS.md`, which is long and isn't kept. It begins where the other pages end:
+[The definitions](HEADLINE-DEFINITIONS.md) on which the two clauses rest stand crate by crate, those of the table first, with how to read them.
+[The causes](HEADLINE-CAUSES.md) say when each status of `flow` comes and what it leaves, with the evidence of a net that is stuck. Both leave
+out which words spell a command, and which bytes are a source and a library: `bench/headline.py` writes a page of it,
+`build/HEADLINE-INPUTS.md`, which is long and isn't kept. It goes on from here:
 """
 
-DEFINITIONS = """# All definitions of the headline
+DEFINITIONS = """# The definitions of the headline
 
 Here stands each definition on which the two clauses of [the headline](HEADLINE.md) rest, with its comment, but for what they say of their
 inputs: which words spell a command, and which bytes a source and a library, which `bench/headline.py` writes to `build/HEADLINE-INPUTS.md`. The
@@ -96,12 +96,12 @@ FRONT = [
     ]),
     ("how good it is", [
         ("flow_run", "IsLeanBy", "few gates, few input pins of a class, and no buffer where it would do without"),
-        ("net_tight", "IsTight", "no usable cell could stand for two gates of which one pin of the one alone reads the output of the other"),
+        ("net_tight", "IsTight", "no usable cell could stand for two gates where one pin of the one alone reads the output of the other, and no port shows it"),
         ("flow_netlist", "IsDrivenAs", "its longest path takes so long, and no exchange of one cell for another drive makes that less"),
         ("delay_sta", "IsWorst", "the greatest time of all paths to an output port or to a flip-flop's data pin"),
     ]),
     ("how it is laid out", [
-        ("ocp_anneal", "IsGoodPlacement", "even rows; no exchange of neighbours makes the nets shorter, and they are no longer than after the moves"),
+        ("ocp_anneal", "IsGoodPlacement", "rows as asked for, and even; no exchange of neighbours makes the nets shorter, and they are no longer than after the moves"),
         ("flow_run", "IsGridLayout", "the lines of a figure: such a placement, and the wires and vias of nets that were routed in order, each whole"),
         ("grid_core", "IsLeastPath", "a path on free nodes to the net's tree than which none costs less: a step is 1, a via 3"),
     ]),
