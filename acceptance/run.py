@@ -30,7 +30,7 @@ from acceptance.running import baseline, below_metal, documents, front  # noqa: 
 from acceptance.running.case_file import case_files  # noqa: E402
 from acceptance.running.cases import check_case  # noqa: E402
 from acceptance.running.results import Results  # noqa: E402
-from acceptance.shared import brought, explained, installed, layouts, liberty, pages, pictures, programs, rechecks  # noqa: E402
+from acceptance.shared import brought, course, explained, installed, layouts, liberty, pages, pictures, programs, rechecks  # noqa: E402
 from acceptance.tools import cut_files, real_faults  # noqa: E402
 from acceptance.tools.table import TOOLS  # noqa: E402
 
@@ -45,6 +45,7 @@ def jobs_of(program, probe, cell_probe, maze_probe, seed, times):
     yield from programs.jobs(program)
     yield from pictures.jobs()
     yield from brought.jobs(program)
+    yield from course.jobs(program)
     yield from explained.jobs(program)
     yield from liberty.jobs()
     yield from installed.jobs(program)
