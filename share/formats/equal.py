@@ -11,7 +11,7 @@ steps together; when they are spent, the others are compared at random, which ta
 
 import functools
 import random
-from typing import NamedTuple
+from typing import NamedTuple, Optional
 
 from .diagrams import Nodes
 
@@ -33,7 +33,7 @@ class Answer(NamedTuple):
     """How two functions were compared, and the values of bits under which they differ, or None."""
 
     way: str
-    values: dict | None
+    values: Optional[dict]
 
 
 class OverBudget(Exception):
