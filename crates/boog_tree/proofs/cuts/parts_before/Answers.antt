@@ -1,4 +1,4 @@
-use Rattle.std.proofs.Common.{◌≡◌, ℕ, List, [], ◌∷◌, length, length-append, ap, sym, subst, ◌∙◌, arith, if◌then◌else◌}
+use Rattle.std.proofs.Common.{ℕ, List, [], ◌∷◌, length, length-append, ap, sym, subst, ◌∙◌, arith, if◌then◌else◌}
 use Rattle.std.specs.Global.{Vec}
 use Rattle.bool_expr.specs.Expression.{bit}
 use Rattle.cell_match.specs.declared.cut.Cut.{Cut}
