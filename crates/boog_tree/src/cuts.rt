@@ -105,7 +105,7 @@ pub(crate) fn parts_of<const K: usize>(
 ) -> Result<Vec<Cut<K>>, AllocError>
     requires some { 0 < K }
     requires few { K ≤ 6 }
-    ensures { IfOk result (λ parts. HasItself number (if inner then cuts.items else []) parts.items) }
+    ensures { IfOk result (λ parts. HasItself number (if inner then cuts.entry.items else []) parts.items) }
 {
     let mut parts = if inner { cuts } else { Vec::new(alloc) };
     parts.push(single(number))?;

@@ -122,7 +122,10 @@ fn an_input_has_no_cut(rt: HostRuntime) -> Result<(), Fail> {
 #[test]
 fn bounds_are_what_the_least_matches_cost(rt: HostRuntime) -> Result<(), Fail> {
     assert_eq!(rt; are_bounds(rt.alloc(), CHAIN, &[0, 0, 0, 3, 6]), Some(true));
-    assert_eq!(rt; are_bounds(rt.alloc(), TWO_TREES, &[0, 0, 0, 3, 3]), Some(true));
+    assert_eq!(rt;
+        are_bounds(rt.alloc(), TWO_TREES, &[0, 0, 0, 3, 3]),
+        Some(true)
+    );
     Ok(())
 }
 
@@ -134,14 +137,26 @@ fn one_less_is_a_bound_too(rt: HostRuntime) -> Result<(), Fail> {
 
 #[test]
 fn one_more_is_no_bound(rt: HostRuntime) -> Result<(), Fail> {
-    assert_eq!(rt; are_bounds(rt.alloc(), CHAIN, &[0, 0, 0, 3, 7]), Some(false));
-    assert_eq!(rt; are_bounds(rt.alloc(), CHAIN, &[0, 0, 0, 4, 6]), Some(false));
-    assert_eq!(rt; are_bounds(rt.alloc(), TWO_TREES, &[0, 0, 0, 3, 4]), Some(false));
+    assert_eq!(rt;
+        are_bounds(rt.alloc(), CHAIN, &[0, 0, 0, 3, 7]),
+        Some(false)
+    );
+    assert_eq!(rt;
+        are_bounds(rt.alloc(), CHAIN, &[0, 0, 0, 4, 6]),
+        Some(false)
+    );
+    assert_eq!(rt;
+        are_bounds(rt.alloc(), TWO_TREES, &[0, 0, 0, 3, 4]),
+        Some(false)
+    );
     Ok(())
 }
 
 #[test]
 fn an_input_has_the_bound_0(rt: HostRuntime) -> Result<(), Fail> {
-    assert_eq!(rt; are_bounds(rt.alloc(), CHAIN, &[1, 0, 0, 3, 6]), Some(false));
+    assert_eq!(rt;
+        are_bounds(rt.alloc(), CHAIN, &[1, 0, 0, 3, 6]),
+        Some(false)
+    );
     Ok(())
 }

@@ -34,13 +34,12 @@ joined-requires g c =
     let x = length c.args.parts.now in
     let node = node_at c.args.held c.args.graph.now c.nodes.result.now x (kind.Nand c.in-Nand.a c.in-Nand.b) _ c.nodes.ensures c.if-parts-first.false c.requires.there c.in-Nand.is in
     let low = (reads_below c.args.held c.args.graph.now c.requires.earlier x (nand c.in-Nand.a c.in-Nand.b) node).0 in
-    let at = list_at (λ v. v.items) c.args.parts.now c.in-Nand.a c.index-parts-a-in-Nand.result low c.index-parts-a-in-Nand.is in
-    (
+    let at = list_at (λ v. v.items) c.args.parts.now c.in-Nand.a c.index-parts-a-in-Nand.result low c.index-parts-a-in-Nand.is in (
       cut_fits g.row.K c.requires.few,
       (
         c.requires.few,
         subst (λ (l : List (Cut g.row.K)). AreOnce l) (sym c.as_slice-in-Nand.ensures.value)
-        (parts_once c.args.held c.args.graph.now c.in-Nand.a c.index-parts-a-in-Nand.result.items (c.requires.parts c.in-Nand.a c.index-parts-a-in-Nand.result.items at)),
+            (parts_once c.args.held c.args.graph.now c.in-Nand.a c.index-parts-a-in-Nand.result.items (c.requires.parts c.in-Nand.a c.index-parts-a-in-Nand.result.items at)),
       ),
     )
 

@@ -1,4 +1,4 @@
-use Rattle.std.proofs.Common.{◌≡◌, ℕ, List, [], ◌∷◌, length, length-append, ap, sym, subst, ◌∙◌, arith, if◌then◌else◌}
+use Rattle.std.proofs.Common.{ℕ, List, [], ◌∷◌, length, length-append, ap, sym, subst, ◌∙◌, arith, if◌then◌else◌}
 use Rattle.std.specs.Global.{Vec}
 use Rattle.bool_expr.specs.Expression.{bit}
 use Rattle.cell_match.specs.declared.cut.Cut.{Cut}
@@ -10,8 +10,8 @@ use Rattle.boog_tree.proofs.cuts.parts_before.Goals as goal
 
 pub loop-before-init : goal.loop-before-init
 loop-before-init g c = record {
-  many = ap (λ (l : List (Vec (Cut g.row.K))). length l) c.new.ensures.items;
-  parts = tree_parts_none c.args.held c.args.graph.now c.new.result.items c.new.ensures.items;
+  many = ap (λ (l : List (Vec (Cut g.row.K))). length l) c.new-parts.ensures.items;
+  parts = tree_parts_none c.args.held c.args.graph.now c.new-parts.result.items c.new-parts.ensures.items;
 }
 
 pub next_cuts-requires : goal.next_cuts-requires
