@@ -8,6 +8,7 @@ mod net;
 mod passes;
 mod readers;
 mod search;
+mod timing;
 mod trial;
 mod window;
 mod work;

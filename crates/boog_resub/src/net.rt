@@ -132,9 +132,14 @@ impl Net {
         }
     }
 
+    /// How many pins of gates that are needed and how many roots read a node.
+    pub(crate) fn readers_of(&self, node: u32) -> u32 {
+        number_at(&self.counts, node)
+    }
+
     /// Whether a node is read.
     pub(crate) fn is_read(&self, node: u32) -> bool {
-        number_at(&self.counts, node) > 0
+        self.readers_of(node) > 0
     }
 
     /// Whether a root reads a node.

@@ -11,9 +11,6 @@ const PASSES: u32 = 12;
 
 const IDLE: u32 = 3;
 
-/// Each pass of so many exchanges gates at no gain too.
-const EXCHANGE: u32 = 3;
-
 /// A node's other gate, and leaves over which both have one function.
 #[derive(Drop)]
 pub struct Step {
@@ -22,7 +19,7 @@ pub struct Step {
     pub leaves: ArrayVec<u32, 6>,
 }
 
-/// Puts another gate in place of a node's where that gains so many columns, with the window that the pass takes.
+/// Puts another gate in place of a node's where that gains most columns, or none and is no later, with the window that the pass takes.
 fn improve(
     work: &mut Work,
     steps: &mut Vec<Step>,
@@ -31,13 +28,8 @@ fn improve(
     node: u32,
     pass: u32,
 ) -> Result<(), AllocError> {
-    let least = if pass % EXCHANGE == EXCHANGE - 1 {
-        0
-    } else {
-        1
-    };
     let window = work.window(cells, node, pass % 4 < 2);
-    let Some(gate) = work.best(areas, &window, least)? else {
+    let Some(gate) = work.best(areas, &window)? else {
         return Ok(());
     };
     work.change(areas, node, &gate)?;
@@ -62,14 +54,23 @@ pub fn steps(
     let mut idle: u32 = 0;
     for pass in 0..PASSES {
         let before = work.gained;
+        let is_up = pass % 2 == 0;
+        if !is_up {
+            work.timing.forget_rests();
+        }
         for count in 0..nodes {
-            let node = if pass % 2 == 0 {
+            let node = if is_up {
                 count
             } else {
                 nodes.wrapping_sub(count).wrapping_sub(1)
             };
             if work.net.is_read(node) && work.net.gate(node).is_some() {
                 improve(&mut work, &mut steps, cells, areas, node, pass)?;
+            }
+            if is_up {
+                work.timing.note_arrival(&work.net, node);
+            } else {
+                work.timing.note_rests(&work.net, node);
             }
         }
         idle = if work.gained > before {

@@ -4,6 +4,7 @@ use crate::forms::{Form, Forms};
 use crate::lists::{copied, has};
 use crate::net::{Columns, Net, columns_of};
 use crate::search::{AllFound, Parts, find};
+use crate::timing::{Time, Timing};
 use crate::trial::Trial;
 use crate::window::Window;
 use arrayvec::ArrayVec;
@@ -15,15 +16,17 @@ use std::alloc::{AllocError, Global};
 pub(crate) struct Work {
     pub(crate) net: Net,
     pub(crate) gained: Columns,
+    pub(crate) timing: Timing,
     trial: Trial,
     forms: Forms,
     places: Vec<u32>,
 }
 
-/// The best gate so far, and what it gains.
+/// The best gate so far, what it gains, and when it has its bit.
 #[derive(Drop)]
 struct Best {
     gain: Columns,
+    arrival: Time,
     gate: Option<Gate>,
 }
 
@@ -46,9 +49,12 @@ impl Work {
         marks: &[bool],
         roots: &[u32],
     ) -> Result<Work, AllocError> {
+        let net = Net::new(alloc, gates, marks, roots)?;
+        let timing = Timing::new(alloc, cells, &net)?;
         Ok(Work {
-            net: Net::new(alloc, gates, marks, roots)?,
+            net,
             gained: 0,
+            timing,
             trial: Trial::new(alloc),
             forms: Forms::new(alloc, cells, areas)?,
             places: vec![in alloc; 0u32; gates.len()]?,
@@ -122,9 +128,14 @@ impl Work {
         }
         let gain = self.gain(areas, node, &gate)?;
         self.trial.undo(&mut self.net);
-        if gain > best.gain {
-            best.gain = gain;
-            best.gate = Some(gate);
+        let arrival = self.timing.arrival_by(&self.net, node, &gate);
+        let is_better = gain > best.gain || gain == best.gain && arrival < best.arrival;
+        if is_better && self.timing.may_stand(&self.net, node, &gate) {
+            *best = Best {
+                gain,
+                arrival,
+                gate: Some(gate),
+            };
         }
         Ok(())
     }
@@ -162,24 +173,25 @@ impl Work {
                 break;
             };
             let form = *form;
-            if parts.is_for(&form) && freed.saturating_sub(form.area) > best.gain {
+            if parts.is_for(&form) && freed.saturating_sub(form.area) >= best.gain {
                 self.consider_form(areas, window, parts, &form, best)?;
             }
         }
         Ok(())
     }
 
-    /// The gate that gains most for the window's node, at least so many columns.
+    /// The gate that gains most for the window's node, of those the one that has its bit first; one that gains nothing is later than the
+    /// node's own by no time.
     pub(crate) fn best(
         &mut self,
         areas: &[u32],
         window: &Window,
-        least: Columns,
     ) -> Result<Option<Gate>, AllocError> {
         let freed = self.freed(areas, window.node, &[])?;
         self.trial.undo(&mut self.net);
         let mut best = Best {
-            gain: least.saturating_sub(1),
+            gain: 0,
+            arrival: self.timing.arrival(window.node).saturating_add(1),
             gate: None,
         };
         for is_negative in [false, true] {
