@@ -1,5 +1,5 @@
 -- Whole covers, of which gates are replaced and then left out.
-use Rattle.std.proofs.Common.{◌≡◌, ◌⊎◌, inl, inr, ℕ, ◌+◌, ◌*◌, ◌<◌, ◌≤◌, ◌==◌, ◌||◌, Bool, true, false, List, [], ◌∷◌, length, take, get_or, Option, None, Some, ap, refl, sym, subst, ◌∙◌, arith}
+use Rattle.std.proofs.Common.{◌≡◌, ◌⊎◌, inl, inr, ℕ, ◌+◌, ◌*◌, ◌<◌, ◌≤◌, ◌==◌, ◌||◌, Bool, true, false, List, [], ◌∷◌, length, take, get_or, Option, None, Some, refl, sym, subst, ◌∙◌, arith}
 use Prim.Native.Nat.{zero, suc}
 use Rattle.std.proofs.lemmas.Bool.{cases_lt, eqb-true, eq-eqb}
 use Rattle.std.specs.Prelude.{IsTrue}
@@ -8,15 +8,14 @@ use Rattle.graph_theory.specs.Graph.{Node, fixed, inv, nand, ReadsBelow}
 use Rattle.cell_match.specs.declared.gate.CellWord.{CellWord}
 use Rattle.cell_match.specs.declared.gate.Gate.{Gate}
 use Rattle.cell_match.specs.Places.{times}
-use Rattle.cell_match.specs.Cells.{IsGate}
 use Rattle.cell_match.specs.declared.cut.Cut.{Cut}
-use Rattle.boog_tight.specs.Cover.{leaves_of, gate_at, IsCover, AreTrue, uses}
+use Rattle.boog_tight.specs.Cover.{leaves_of, gate_at, IsCover, uses}
 use Rattle.boog_tight.specs.Kept.{leaf_count, ReadsThrough, pin, through, Keeps}
 use Rattle.boog_tight.specs.Tight.{IsTight}
 use Rattle.boog_tight.proofs.Counting.{gate_there}
 use Rattle.cell_match.proofs.Numbers.{one_tells, times_more}
 use Rattle.boog_cuts.specs.Reads.{reads}
-use Rattle.boog_cuts.specs.Cuts.{AreValues, IsCutTable}
+use Rattle.boog_cuts.specs.Cuts.{IsCutTable}
 use Rattle.cover_check.specs.Words.{KeepBits}
 use Rattle.cover_check.specs.Covering.{KeepCover}
 use Rattle.boog_cover.specs.Choices.{AreChosen}

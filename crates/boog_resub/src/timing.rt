@@ -17,7 +17,7 @@ const FURTHER: Time = 4;
 const SECOND_STAGE: Time = 12;
 
 /// What each reader of a node adds, up to so many; where there are more, buffers will stand between.
-const READER: Time = 6;
+const READER: Time = 5;
 
 const MOST_READERS: u32 = 8;
 

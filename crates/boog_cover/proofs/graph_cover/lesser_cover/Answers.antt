@@ -1,4 +1,4 @@
-use Rattle.std.proofs.Common.{◌≡◌, ◌∙◌, ◌+◌, ◌*◌, ◌≤◌, ℕ, Bool, List, Option, length, map, ap, subst, arith}
+use Rattle.std.proofs.Common.{◌∙◌, ◌*◌, ◌≤◌, Bool, List, Option, length, map, ap, subst, arith}
 use Rattle.graph_theory.specs.Graph.{Node}
 use Rattle.subject_table.specs.View.{node_view}
 use Rattle.cell_match.specs.declared.gate.Gate.{Gate}

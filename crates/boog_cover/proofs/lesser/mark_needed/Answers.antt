@@ -1,4 +1,4 @@
-use Rattle.std.proofs.Common.{inl, inr, List, length, map, ap, sym, subst, arith}
+use Rattle.std.proofs.Common.{inl, inr, List, length, ap, sym, subst, arith}
 use Rattle.graph_theory.specs.Graph.{Node, EachReadsEarlier}
 use Rattle.subject_table.specs.View.{node_view}
 use Rattle.boog_cuts.proofs.Whole.{map_long}

@@ -1,4 +1,4 @@
-use Rattle.std.proofs.Common.{◌⊎◌, inl, inr, sym, subst}
+use Rattle.std.proofs.Common.{sym, subst}
 use Rattle.std.specs.Prelude.{IsTrue}
 use Rattle.subject_table.specs.View.{node_view}
 use Rattle.subject_table.specs.declared.table.Node.{Node as Kind}
