@@ -4,8 +4,8 @@
 //! what it leaves, for all tools, in `specs/Table.antt` of `tool_drive`.
 #![tactic(auto)]
 
-mod fields;
 mod near;
+mod process;
 mod reader;
 mod s2r;
 mod words;

@@ -1,5 +1,8 @@
 // `s2r` as a tool: what it reads, and what it answers.
-ghost use Rattle.std.specs.Prelude.{ℕ, List, IfOk, false};
+ghost use Rattle.std.specs.Prelude.{◌≡◌, ℕ, List, IfOk, false};
+ghost use Rattle.ap_io.specs.ApText.{IsApText};
+ghost use Rattle.cougar_extract.specs.Extracted.{IsReadyFigure};
+ghost use Rattle.real_table.specs.Process.{is_process as is_process_text};
 ghost use Rattle.cell_lib.specs.Library.{IsLibraryOf};
 ghost use Rattle.tool_drive.specs.Refusals.{MemoryOr};
 ghost use Rattle.tool_drive.specs.Table.{IsJudged};
@@ -7,11 +10,13 @@ ghost use Rattle.s2r_cif.specs.Real.{IsRealLayout};
 ghost use Rattle.s2r_run.specs.S2r.{IsProductOf, IsToldOf, Makes, texts};
 
 use crate::near::near_text;
+use crate::process::made_process;
 use crate::reader::read_table;
 use crate::words::S2rCommand;
-use ap_io::{read_ap, what_is_read_is_a_figure};
+use ap_io::{Figure, read_ap, what_is_read_is_a_figure};
 use cell_checks::Library;
 use cell_lib::LibraryTool;
+use real_table::is_process;
 use s2r_cif::{RealError, RealLayout, to_real, write_cif};
 use std::alloc::{AllocError, Global};
 use tool_drive::{
@@ -56,6 +61,31 @@ fn product(alloc: Global, command: &S2rCommand, layout: &RealLayout) -> Result<P
     })
 }
 
+// What the layout comes to by a plain table.
+fn made_plain(
+    alloc: Global,
+    command: &S2rCommand,
+    library: &Library,
+    figure: &Figure,
+    table: &[u8],
+) -> Result<Product, Refusal>
+    requires figure { IsReadyFigure figure.now }
+    requires plain { is_process_text table.now ≡ false }
+    ensures { (catal source : List ℕ) (cells : List (List ℕ)) → IsLibraryOf false catal cells library.now → IsApText source figure.now
+        → IsJudged (Makes command.now (texts source table.now catal cells)) result }
+{
+    let table = match read_table(alloc, table) {
+        Ok(table) => table,
+        Err(error) => return Err(Refusal::plain(refused(alloc, &command.table, error))),
+    };
+    let layout = match to_real(alloc, figure, library, &table) {
+        Ok(layout) => layout,
+        Err(error) => return Err(Refusal::plain(real_status(alloc, command, error))),
+    };
+    let product = product(alloc, command, &layout)?;
+    Ok(product)
+}
+
 // What the layout comes to, by the table.
 fn made(
     alloc: Global,
@@ -73,16 +103,11 @@ fn made(
         Ok(figure) => figure,
         Err(error) => return Err(Refusal::plain(refused(alloc, &command.source, error))),
     };
-    let table = match read_table(alloc, table) {
-        Ok(table) => table,
-        Err(error) => return Err(Refusal::plain(refused(alloc, &command.table, error))),
-    };
-    let layout = match to_real(alloc, &figure, library, &table) {
-        Ok(layout) => layout,
-        Err(error) => return Err(Refusal::plain(real_status(alloc, command, error))),
-    };
-    let product = product(alloc, command, &layout)?;
-    Ok(product)
+    if is_process(table) {
+        made_process(alloc, command, library, &figure, table)
+    } else {
+        made_plain(alloc, command, library, &figure, table)
+    }
 }
 
 /// `s2r`, with what it is asked: it makes the real layout of the one in SOURCE by the table in TABLE, writes it to NAME.cif, and prints

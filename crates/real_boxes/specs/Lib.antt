@@ -1,0 +1,6 @@
+pub mod Marks
+pub mod Boxes
+pub mod Refused
+pub mod Bounds
+pub mod File
+pub mod Shapes
