@@ -7,6 +7,7 @@ use Rattle.vlsi_base.specs.declared.name.Name.{Name}
 use Rattle.sym_geom.specs.declared.rect.Rect.{Rect}
 use Rattle.sym_geom.specs.declared.item.Item.{Item}
 use Rattle.sym_geom.specs.declared.item.Item.TheVariants as item
+use Rattle.sym_shapes.specs.Shape.{wire_name}
 use Rattle.ap_io.specs.Spelling.{layer_text}
 use Rattle.ap_io.specs.declared.figure.Figure.{Figure}
 use Rattle.s2r_cif.specs.Cif.{number_text}
@@ -86,9 +87,9 @@ abbrev pub named_port : List ℕ → Option Name → Rect → Option Port
 named_port word None r = None
 named_port word (Some n) r = Some (record { word = word; name = n; rect = r })
 
--- the connector that a line draws, if it has a name
+-- the connector that a line draws, if it has a name; a segment is one on CALU alone
 abbrev pub item_port : Item → Option Port
-item_port (item.Segment s) = named_port (layer_text s.layer) s.name (segment_core s)
+item_port (item.Segment s) = named_port (layer_text s.layer) (wire_name s.layer s.name) (segment_core s)
 item_port (item.Connector c) = named_port (layer_text c.layer) c.name (connector_core c)
 item_port (item.Via v) = None
 item_port (item.Instance i) = None

@@ -2,6 +2,8 @@
 ghost use Rattle.std.specs.Prelude.{◌≡◌, ◌++◌, ◌≤◌, ◌+ℤ◌, ◌*ℤ◌, pos, All, IfOk, IfSome, OnOk};
 ghost use Rattle.ap_io.specs.Spelling.{layer_text};
 ghost use Rattle.cougar_extract.specs.Stages.{HasCellEdges, IsCellEdge};
+ghost use Rattle.sym_geom.specs.Items.{IsReadySegment};
+ghost use Rattle.sym_geom.specs.declared.item.Item.TheVariants as item;
 ghost use Rattle.sym_shapes.specs.Ready.{IsReady};
 ghost use Rattle.s2r_cif.specs.Cif.{number_text};
 ghost use Rattle.real_table.specs.declared.table.TheConstants.{MOST_UNIT};
@@ -12,7 +14,7 @@ use crate::words::layer_word;
 use real_table::Entry;
 use s2r_cif::scaled;
 use std::alloc::{AllocError, Global};
-use sym_geom::{Item, Layer, Rect};
+use sym_geom::{Item, Layer, Rect, Segment};
 use vlsi_base::{FileBytes, Name, Text};
 
 /// A number behind a blank.
@@ -126,7 +128,8 @@ fn named_port(
     name: &Option<Name>,
     rect: Rect,
 ) -> Result<Option<Port>, AllocError>
-    ensures { IfOk result (λ port. port ≡ port_with (layer_text layer) name.now rect) }
+    ensures value { IfOk result (λ port. port ≡ port_with (layer_text layer) name.now rect) }
+    ensures same { IfOk result (λ port. IfSome port (λ p. p.rect ≡ rect)) }
 {
     let Some(name) = name else {
         return Ok(None);
@@ -136,6 +139,18 @@ fn named_port(
     Ok(Some(Port { word, name, rect }))
 }
 
+/// The connector that a segment is, if it is one: on CALU, and with a name.
+fn segment_port(alloc: Global, segment: &Segment) -> Result<Option<Port>, AllocError>
+    requires { IsReadySegment segment.now }
+    ensures value { IfOk result (λ port. port ≡ port_of (item.Segment segment.now)) }
+    ensures edges { IfOk result (λ port. IfSome port (λ p. HasCellEdges p.rect)) }
+{
+    match segment.layer {
+        Layer::Calu(_) => named_port(alloc, segment.layer, &segment.name, segment_core(segment)),
+        _ => Ok(None),
+    }
+}
+
 /// The connector that a line draws, if it has a name.
 fn item_port(alloc: Global, item: &Item) -> Result<Option<Port>, AllocError>
     requires { IsReady item.now }
@@ -143,9 +158,7 @@ fn item_port(alloc: Global, item: &Item) -> Result<Option<Port>, AllocError>
     ensures edges { IfOk result (λ port. IfSome port (λ p. HasCellEdges p.rect)) }
 {
     match item {
-        Item::Segment(segment) => {
-            named_port(alloc, segment.layer, &segment.name, segment_core(segment))
-        }
+        Item::Segment(segment) => segment_port(alloc, segment),
         Item::Connector(connector) => named_port(
             alloc,
             connector.layer,

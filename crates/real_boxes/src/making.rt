@@ -1,5 +1,5 @@
 // The boxes of a layout.
-ghost use Rattle.std.specs.Prelude.{◌≡◌, ◌<◌, ◌^◌, All, None, IfErr, IfOk, IfSome, OnOk, length};
+ghost use Rattle.std.specs.Prelude.{◌≡◌, ◌⊎◌, ◌<◌, ◌^◌, All, None, IfErr, IfOk, OnOk, length};
 ghost use Rattle.vlsi_base.specs.Member.{In};
 ghost use Rattle.sym_geom.specs.Rect.{IsCoordinate};
 ghost use Rattle.sym_geom.specs.declared.item.Instance.{Instance as PlacedInstance};
@@ -10,7 +10,8 @@ ghost use Rattle.cell_checks.specs.Checked.{library_of};
 ghost use Rattle.cougar_extract.specs.Extracted.{IsReadyFigure};
 ghost use Rattle.s2r_cif.specs.Refused.{AreDrawn};
 ghost use Rattle.real_table.specs.Bounds.{IsProcessTable};
-ghost use Rattle.real_boxes.specs.Bounds.{AreBoxes, ReachAll};
+ghost use Rattle.real_boxes.specs.declared.error.ProcessError.TheVariants as error;
+ghost use Rattle.real_boxes.specs.Bounds.{AreBoxes, AreOnLayers, IsLayer, ReachAll};
 ghost use Rattle.real_boxes.specs.Boxes.{boxes_of as boxes_of_marks, layer_of};
 ghost use Rattle.real_boxes.specs.Refused.{AreGood, CanBeMade, IsBoxRefusal, IsDrawRefusal, IsFitRefusal, IsMakeRefusal, IsProcessRefusal, first_lost, first_unfit as first_unfit_of, layout_boxes};
 
@@ -27,7 +28,7 @@ use cougar_extract::{ExtractError, draw_layout};
 use real_table::{Entry, ProcessTable};
 use s2r_cif::{RealError, check_mappable};
 use std::alloc::Global;
-use sym_geom::Item;
+use sym_geom::{Item, Rect};
 use vlsi_base::{Limit, LimitKind, Listed, Text};
 
 /// Refuses instances that aren't of mappable cells, and 2^32 shapes or more.
@@ -64,41 +65,43 @@ fn check_drawn(alloc: Global, items: &[Item], cells: &[Cell]) -> Result<(), Proc
 }
 
 /// The name of the real layer of this number.
-fn name_of(entries: &[Entry], layer: u64) -> Option<&Text>
-    ensures { IfSome result (λ real. layer_of entries.now real.now ≡ layer) }
+fn name_of(entries: &[Entry], layer: u64) -> &Text
+    requires { IsLayer entries.now layer }
+    ensures { layer_of entries.now result.now ≡ layer }
 {
-    for entry in entries {
-        if let Entry::Rule(rule) = entry {
-            if layer_of(entries, rule.real.as_bytes()) as u64 == layer {
-                return Some(&rule.real);
-            }
-        }
+    match &entries[layer as usize] {
+        Entry::Rule(rule) => &rule.real,
+        _ => unreachable!(),
     }
-    None
 }
 
-/// The refusal of the first box that doesn't fit, if there is one.
+/// Refuses the first box that doesn't fit.
 fn check_fit(alloc: Global, table: &ProcessTable, boxes: &[RealBox]) -> Result<(), ProcessError>
-    requires { IsProcessTable table.now }
+    requires table { IsProcessTable table.now }
+    requires layers { AreOnLayers table.now.entries boxes.now }
     ensures fit { OnOk result (first_unfit_of table.now.head.grid boxes.now ≡ None) }
     ensures refused { IfErr result (λ e. IsFitRefusal table.now.entries table.now.head.grid boxes.now e) }
 {
     let Some(one) = first_unfit(table.head.grid, boxes) else {
         return Ok(());
     };
-    let entries = table.entries.as_slice();
-    match name_of(entries, one.layer) {
-        Some(real) => Err(ProcessError::OffGrid {
-            real: real.copy(alloc)?,
-            rect: one.rect,
-        }),
-        None => Err(ProcessError::Memory),
+    let real = name_of(table.entries.as_slice(), one.layer);
+    Err(unfit(alloc, real, one.rect))
+}
+
+fn unfit(alloc: Global, real: &Text, rect: Rect) -> ProcessError
+    ensures { (result ≡ error.Memory) ⊎ (result ≡ error.OffGrid real.now rect) }
+{
+    match real.copy(alloc) {
+        Ok(real) => ProcessError::OffGrid { real, rect },
+        Err(_) => ProcessError::Memory,
     }
 }
 
 /// Refuses boxes that are too many, don't fit or are too near.
 fn check_boxes(alloc: Global, table: &ProcessTable, boxes: &[RealBox]) -> Result<(), ProcessError>
-    requires { IsProcessTable table.now }
+    requires table { IsProcessTable table.now }
+    requires layers { AreOnLayers table.now.entries boxes.now }
     ensures good { OnOk result (AreGood table.now boxes.now) }
     ensures refused { IfErr result (λ e. IsBoxRefusal table.now boxes.now e) }
 {
