@@ -369,7 +369,8 @@ def gds_jobs(room, program, path, title, table, process, boxes):
     if done.returncode == 0:
         of_cif = made.with_suffix(".cif.boxes")
         found = cif.read((room.folder / "l.cif").read_bytes())
-        write_boxes(of_cif, [(layer, tuple(map(int, box))) for layer, all_boxes in found.items() for box in all_boxes], times, names)
+        in_units = [(layer, tuple(int(edge * process.table.unit) for edge in box)) for layer, all_boxes in found.items() for box in all_boxes]
+        write_boxes(of_cif, in_units, times, names)
         yield made, "-", of_cif, 1 / process.units
 
 

@@ -206,6 +206,8 @@ class Layout:
                 continue
             name = item[6] if item[0] == "S" else item[4]
             layer, _, core = segment(item) if item[0] == "S" else connector(item)
+            if item[0] == "S" and not layer.startswith(b"CALU"):
+                continue
             for word, real in self.table.labels:
                 if name[0] != "*" and word == layer:
                     yield f"94 {shown(name)} {self.table.scale * (core[0] + core[2])} {self.table.scale * (core[1] + core[3])} {real};"
