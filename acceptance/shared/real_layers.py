@@ -8,12 +8,11 @@ import sys
 
 from acceptance.running.places import CELLS, EXAMPLES, SHARE
 from acceptance.running.results import Room, shown
-from acceptance.shared.programs import tool
 from share.formats import cif
 
 SECONDS = 300
 SOURCES = ("inverter/row1.vbe", "counter/cnt4.vbe", "adder/add4.vbe", "lock/lock.fsm", "alu/alu8.vbe")
-ROUTES = {"rows": ([], ["scn6m_subm"]), "four metals": (["--metals", "4"], ["scn6m_subm", "scn4m_subm"]), "tracks": (["--tracks"], ["scn6m_subm", "scn4m_subm", "scn3me_subm"])}
+ROUTES = {"rows": ([], ["scn6m_subm"]), "four": (["--metals", "4"], ["scn6m_subm", "scn4m_subm"]), "tracks": (["--tracks"], ["scn6m_subm", "scn4m_subm", "scn3me_subm"])}
 
 
 def compare(results, room, program, layout, table):
@@ -27,22 +26,22 @@ def compare(results, room, program, layout, table):
     results.note(f"share/cif of {title}", done.returncode == 0, done.stderr[-300:].decode())
     if status == 0 == done.returncode:
         one, other = (room.folder / "one.cif").read_bytes(), done.stdout
-        boxes = cif.read(one)
-        layers = {layer for layer, members in boxes.items() if members != cif.read(other).get(layer)} | boxes.keys() ^ cif.read(other).keys()
+        boxes, others = cif.read(one), cif.read(other)
+        layers = {layer for layer in boxes.keys() | others.keys() if boxes.get(layer) != others.get(layer)}
         results.note(f"the boxes of {title}", not layers, f"other ones on {sorted(layers)}")
-        results.note(f"how many boxes of {title}", printed == f"boxes {sum(map(len, boxes.values()))}\n", printed)
+        results.note(f"how many boxes of {title}", printed == b"boxes %d\n" % sum(map(len, boxes.values())), shown(status, printed))
         results.note(f"the texts of {title}", cif.texts(one) == cif.texts(other), f"{cif.texts(one)[:3]} {cif.texts(other)[:3]}")
         results.note(f"a layout by {table} has transistors", {"CAA", "CPG"} <= boxes.keys(), str(boxes.keys()))
 
 
 def check_source(results, program, source):
-    """What `flow` draws of a source on each route, by each table that has its metals."""
+    """What `flow` draws of a source on each route, by each table that has its metals. A net may be stuck on four metals."""
     with Room() as room:
         for route, (words, tables) in ROUTES.items():
-            name = route.replace(" ", "_")
-            tool(room, program, "flow", EXAMPLES / source, "-l", CELLS, "-o", name, *words)
-            for table in tables:
-                compare(results, room, program, f"{name}.ap", table)
+            status, printed = room.run(program, ["flow", EXAMPLES / source, "-l", CELLS, "-o", route, *words])
+            results.note(f"{source} on {route}", status == 0 or (status, route) == (6, "four"), shown(status, printed))
+            for table in tables if status == 0 else ():
+                compare(results, room, program, f"{route}.ap", table)
 
 
 def check_cells(results, program):
