@@ -1,3 +1,4 @@
 pub mod Reaches
+pub mod Layers
 pub mod Near
 pub mod Making

@@ -4,7 +4,7 @@ ghost use Rattle.cougar_extract.specs.Extracted.{IsReadyFigure};
 ghost use Rattle.real_table.specs.declared.table.TheConstants.{MOST_UNIT};
 ghost use Rattle.real_table.specs.Bounds.{IsProcessTable};
 ghost use Rattle.real_boxes.specs.Bounds.{AreBoxes, HasEdges, IsEdge};
-ghost use Rattle.real_boxes.specs.File.{box_line as line_of_box, entry_layer, has_layer as is_there, heading_text, layers_from, lines_on, name_line as line_of_name, process_text};
+ghost use Rattle.real_boxes.specs.File.{box_line as line_of_box, entry_layer, has_layer as is_there, heading_text, layers_from, line_on as line_of_layer, lines_on, name_line as line_of_name, process_text};
 
 use crate::boxes::RealBox;
 use crate::labels::{label_name, labels, number};
@@ -45,6 +45,22 @@ fn box_line(alloc: Global, out: &mut FileBytes, rect: &Rect) -> Result<(), Alloc
     out.append(b";\n")
 }
 
+/// The line of a box, if it is on this layer.
+fn line_on(
+    alloc: Global,
+    out: &mut FileBytes,
+    layer: u64,
+    one: &RealBox,
+) -> Result<(), AllocError>
+    requires { HasEdges one.now.rect }
+    ensures { OnOk result (out.new ≡ out.old ++ line_of_layer layer one.now) }
+{
+    if one.layer != layer {
+        return Ok(());
+    }
+    box_line(alloc, out, &one.rect)
+}
+
 /// The lines of the boxes on a layer.
 fn box_lines(
     alloc: Global,
@@ -56,9 +72,7 @@ fn box_lines(
     ensures { OnOk result (out.new ≡ out.old ++ lines_on layer boxes.now) }
 {
     for one in boxes {
-        if one.layer == layer {
-            box_line(alloc, out, &one.rect)?;
-        }
+        line_on(alloc, out, layer, one)?;
     }
     Ok(())
 }

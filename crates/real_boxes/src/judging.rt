@@ -1,7 +1,8 @@
 // Metal that would be lost, and boxes that don't fit.
-ghost use Rattle.std.specs.Prelude.{◌≡◌, ◌≤◌, None, IfOk, IfErr, OnOk};
+ghost use Rattle.std.specs.Prelude.{◌≡◌, ◌⊎◌, ◌≤◌, None, IfOk, IfErr, OnOk};
 ghost use Rattle.sym_geom.specs.Rect.{HasReach};
 ghost use Rattle.real_table.specs.Bounds.{IsProcessTable};
+ghost use Rattle.real_boxes.specs.declared.error.ProcessError.TheVariants as error;
 ghost use Rattle.real_boxes.specs.Bounds.{ReachAll};
 ghost use Rattle.real_boxes.specs.Refused.{IsLostRefusal, first_lost, first_unfit as first_unfit_of, fits as fits_grid, has_box_on as has_box, is_kept as is_kept_mark, is_multiple as is_multiple_of, is_written as is_written_by, writes_metal};
 
@@ -61,6 +62,15 @@ fn is_kept(alloc: Global, table: &ProcessTable, mark: &Mark) -> Result<bool, All
     Ok(!mark.joins || is_written(table, &boxes, metal + 1))
 }
 
+fn lost(alloc: Global, mark: &Mark) -> ProcessError
+    ensures { (result ≡ error.Memory) ⊎ (result ≡ error.Lost mark.now.word) }
+{
+    match mark.word.copy(alloc) {
+        Ok(word) => ProcessError::Lost(word),
+        Err(_) => ProcessError::Memory,
+    }
+}
+
 /// Refuses the first mark that shows metal which isn't written.
 pub fn keep_metal(alloc: Global, table: &ProcessTable, marks: &[Mark]) -> Result<(), ProcessError>
     requires table { IsProcessTable table.now }
@@ -70,7 +80,7 @@ pub fn keep_metal(alloc: Global, table: &ProcessTable, marks: &[Mark]) -> Result
 {
     for mark in marks {
         if !is_kept(alloc, table, mark)? {
-            return Err(ProcessError::Lost(mark.word.copy(alloc)?));
+            return Err(lost(alloc, mark));
         }
     }
     Ok(())

@@ -1,5 +1,6 @@
 // Boxes on one layer that are nearer than the table says.
-ghost use Rattle.std.specs.Prelude.{◌≡◌, ◌⊎◌, ◌<◌, ◌^◌, IfErr, IfOk, OnOk, MatchOption, All, length};
+ghost use Rattle.std.specs.Prelude.{◌≡◌, ◌++◌, ◌∷◌, [], ◌⊎◌, ◌<◌, ◌≤◌, ◌^◌, IfErr, IfOk, OnOk, MatchOption, All, length};
+ghost use Rattle.sym_near.specs.Related.{shape_at};
 ghost use Rattle.real_boxes.specs.declared.error.ProcessError.TheVariants as error;
 ghost use Rattle.real_boxes.specs.Refused.{IsEntryRefusal, IsFirstNear, IsNearRefusal, KeepsApart, NoneNear, on_layer};
 ghost use Rattle.real_boxes.specs.Shapes.{shapes_of};
@@ -9,21 +10,43 @@ use crate::error::ProcessError;
 use real_table::Entry;
 use std::alloc::{AllocError, Global};
 use sym_geom::Rect;
-use sym_near::near_pairs;
+use sym_near::{Pair, near_pairs};
 use sym_shapes::Shape;
 use vlsi_base::Text;
 
+/// Puts a box, if it is on this layer, as a shape behind those that are there.
+fn put_shape(shapes: &mut Vec<Shape>, one: &RealBox, layer: u64) -> Result<(), AllocError>
+    ensures { OnOk result (shapes.new.items ≡ shapes.old.items ++ shapes_of (on_layer layer (one.now ∷ []))) }
+{
+    if one.layer != layer {
+        return Ok(());
+    }
+    shapes.push(Shape::new(1, one.rect, None, 0, None))?;
+    Ok(())
+}
+
 /// The boxes on a layer as shapes of one metal, in their order.
 fn shapes_on(alloc: Global, boxes: &[RealBox], layer: u64) -> Result<Vec<Shape>, AllocError>
-    ensures { IfOk result (λ shapes. shapes.items ≡ shapes_of (on_layer layer boxes.now)) }
+    ensures value { IfOk result (λ shapes. shapes.items ≡ shapes_of (on_layer layer boxes.now)) }
+    ensures few { IfOk result (λ shapes. length shapes.items ≤ length boxes.now) }
 {
     let mut shapes = Vec::new(alloc);
     for one in boxes {
-        if one.layer == layer {
-            shapes.push(Shape::new(1, one.rect, None, 0, None))?;
-        }
+        put_shape(&mut shapes, one, layer)?;
     }
     Ok(shapes)
+}
+
+/// The rectangles of the first and the second shape of a pair.
+fn rects_of(shapes: &[Shape], pair: &Pair) -> (Rect, Rect)
+    requires first { pair.now.first < length shapes.now }
+    requires second { pair.now.second < length shapes.now }
+    ensures one { result.0 ≡ (shape_at shapes.now pair.now.first).rect }
+    ensures other { result.1 ≡ (shape_at shapes.now pair.now.second).rect }
+{
+    let one = &shapes[pair.first as usize];
+    let other = &shapes[pair.second as usize];
+    (one.rect(), other.rect())
 }
 
 /// The first two boxes on a layer that don't meet and whose gap is less than this. Takes memory for a few entries a box, and for all
@@ -42,10 +65,7 @@ fn first_near(
     if pairs.near.is_empty() {
         return Ok(None);
     }
-    let pair = pairs.near[0];
-    let one = &shapes[pair.first as usize];
-    let other = &shapes[pair.second as usize];
-    Ok(Some((one.rect(), other.rect())))
+    Ok(Some(rects_of(&shapes, &pairs.near[0])))
 }
 
 /// Refuses boxes that a line of the table keeps apart, and that are too near.
