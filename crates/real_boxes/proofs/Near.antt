@@ -19,7 +19,7 @@ use Rattle.real_table.specs.declared.table.Entry.TheVariants as entry
 use Rattle.real_boxes.specs.declared.boxes.RealBox.{RealBox}
 use Rattle.real_boxes.specs.declared.error.ProcessError.{ProcessError}
 use Rattle.real_boxes.specs.declared.error.ProcessError.TheVariants as errors
-use Rattle.real_boxes.specs.Refused.{rect_at, no_rect, AreNear, NoneNear, IsFirstNear, KeepsApart, IsFirstClose, IsEntryRefusal, IsNearRefusal}
+use Rattle.real_boxes.specs.Refused.{on_layer, rect_at, no_rect, AreNear, NoneNear, IsFirstNear, KeepsApart, IsFirstClose, IsEntryRefusal, IsNearRefusal}
 use Rattle.real_boxes.specs.Shapes.{shape_of, shapes_of}
 
 module _ (rects : List Rect) (gap : ℕ) (shapes : List Shape) (are : shapes ≡ shapes_of rects) where
@@ -110,6 +110,20 @@ module _ (rects : List Rect) (gap : ℕ) (shapes : List Shape) (are : shapes ≡
                   | inr b ↦ let eq = b.0 in let less = b.1 in inr (eq ∙ first, omega (arith, less, second))
                 ]
               ]
+
+-- boxes on a layer are no more than all
+shorter : (p : RealBox → Bool) (boxes : List RealBox) → length (filter p boxes) ≤ length boxes
+shorter p [] = omega arith
+shorter p (b ∷ rest) = by (p b) (shorter p rest) where
+  by : (t : Bool) → length (filter p rest) ≤ length rest → length (if t then b ∷ filter p rest else filter p rest) ≤ length (b ∷ rest)
+  by true h = omega (arith, h)
+  by false h = omega (arith, h)
+
+pub few_on : (boxes : List RealBox) (layer : ℕ) (shapes : List Shape) → shapes ≡ shapes_of (on_layer layer boxes) → length boxes < 4294967296 → length shapes < 4294967296
+few_on boxes layer shapes are few =
+    let n : length shapes ≡ length (on_layer layer boxes) = ap length are ∙ length-map (on_layer layer boxes) shape_of in
+    let m : length (on_layer layer boxes) ≡ length (filter (λ (b : RealBox). b.layer == layer) boxes) = length-map (filter (λ (b : RealBox). b.layer == layer) boxes) (λ (b : RealBox). b.rect) in
+    let most = shorter (λ (b : RealBox). b.layer == layer) boxes in omega (arith, n, m, most, few)
 
 -- ---- lines of the table
 

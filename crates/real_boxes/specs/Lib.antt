@@ -1,5 +1,6 @@
 pub mod Marks
 pub mod Boxes
+pub mod Metals
 pub mod Refused
 pub mod Bounds
 pub mod File

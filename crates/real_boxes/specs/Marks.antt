@@ -1,5 +1,5 @@
 -- What a layout draws on all its layers: the lines of its segments, the squares of its connectors, and the points of its contacts.
-use Rattle.std.specs.Prelude.{ℕ, ℤ, pos, ◌+ℤ◌, ◌-ℤ◌, Bool, true, false, List, [], ◌∷◌, ◌++◌, map, Option, None, Some}
+use Rattle.std.specs.Prelude.{ℕ, ◌+◌, ℤ, pos, ◌+ℤ◌, ◌-ℤ◌, Bool, true, false, List, [], ◌∷◌, ◌++◌, map, Option, None, Some}
 use Rattle.sym_geom.specs.declared.grid.TheConstants.{WIRE_OVERHANG}
 use Rattle.sym_geom.specs.declared.rect.Rect.{Rect}
 use Rattle.sym_geom.specs.declared.item.Direction.{Direction}
@@ -41,12 +41,18 @@ connector_core c = shortened true (square c.x c.y c.width)
 abbrev pub point : ℤ → ℤ → Rect
 point x y = record { x1 = x; y1 = y; x2 = x; y2 = y }
 
--- what a line draws: the word of its layer or contact, the metal that it shows, whether it joins that to the next, and its rectangle
+-- the metal above this one
+abbrev pub metal_above : Option ℕ → Option ℕ
+metal_above None = None
+metal_above (Some k) = Some (k + 1)
+
+-- what a line draws: the word of its layer or contact, the metals that it shows (a via two), and its rectangle
 abbrev pub item_marks : Item → List Mark
 item_marks (item.Segment s) =
-    record { word = layer_text s.layer; metal = metal_of s.layer; joins = false; upright = is_upright s.direction; core = segment_core s } ∷ []
-item_marks (item.Connector c) = record { word = layer_text c.layer; metal = metal_of c.layer; joins = false; upright = true; core = connector_core c } ∷ []
-item_marks (item.Via v) = record { word = contact_text v.contact; metal = lower_metal v.contact; joins = true; upright = true; core = point v.x v.y } ∷ []
+    record { word = layer_text s.layer; metal = metal_of s.layer; above = None; upright = is_upright s.direction; core = segment_core s } ∷ []
+item_marks (item.Connector c) = record { word = layer_text c.layer; metal = metal_of c.layer; above = None; upright = true; core = connector_core c } ∷ []
+item_marks (item.Via v) =
+    record { word = contact_text v.contact; metal = lower_metal v.contact; above = metal_above (lower_metal v.contact); upright = true; core = point v.x v.y } ∷ []
 item_marks (item.Instance i) = []
 item_marks (item.Reference r) = []
 item_marks (item.Remark text) = []

@@ -1,14 +1,11 @@
 -- Which layouts have no boxes of a process.
-use Rattle.std.specs.Prelude.{◌≡◌, ◌≢◌, ◌⊎◌, ℕ, ◌==◌, ◌+◌, ◌<◌, ◌≤◌, ◌^◌, ℤ, pos, Bool, true, false, not, ◌&&◌, ◌||◌, int_lt, int_rem, find, List, [], ◌∷◌, ◌++◌, length, map, filter, slice_index_or, Option, None, Some, All}
-use Rattle.std.specs.List.{list_any}
+use Rattle.std.specs.Prelude.{◌≡◌, ◌⊎◌, ℕ, ◌==◌, ◌+◌, ◌<◌, ◌≤◌, ◌^◌, ℤ, pos, Bool, not, ◌&&◌, int_lt, int_rem, find, List, [], ◌∷◌, ◌++◌, length, map, filter, slice_index_or, Option, None, Some, All}
 use Rattle.std.specs.Ordering.{int_eq}
-use Rattle.vlsi_base.specs.Member.{In}
 use Rattle.vlsi_base.specs.declared.fault.Limit.{Limit}
 use Rattle.vlsi_base.specs.declared.fault.LimitKind.TheVariants as kind
 use Rattle.sym_geom.specs.Rect.{Meet, Near}
 use Rattle.sym_geom.specs.declared.rect.Rect.{Rect}
 use Rattle.sym_geom.specs.declared.item.Item.{Item}
-use Rattle.sym_shapes.specs.Shape.{Shape}
 use Rattle.cell_model.specs.Library.{Library}
 use Rattle.cell_model.specs.Layout.{instances_of}
 use Rattle.cougar_extract.specs.Extracted.{AreKnown}
@@ -22,33 +19,10 @@ use Rattle.real_boxes.specs.declared.boxes.RealBox.{RealBox}
 use Rattle.real_boxes.specs.declared.error.ProcessError.{ProcessError}
 use Rattle.real_boxes.specs.declared.error.ProcessError.TheVariants as error
 use Rattle.real_boxes.specs.Marks.{marks}
-use Rattle.real_boxes.specs.Boxes.{layer_of, boxes_by, boxes_of}
+use Rattle.real_boxes.specs.Boxes.{layer_of, boxes_of}
+use Rattle.real_boxes.specs.Metals.{is_kept}
 
 -- ---- metal that would be lost
-
--- one of these boxes is on this layer
-abbrev pub has_box_on : ℕ → List RealBox → Bool
-has_box_on layer boxes = list_any (λ b. b.layer == layer) boxes
-
--- a line of the table says that this metal is written on a real layer, and one of these boxes is there
-abbrev pub writes_metal : List Entry → List RealBox → ℕ → Entry → Bool
-writes_metal all boxes metal (entry.Metal own real) = own == metal && has_box_on (layer_of all real) boxes
-writes_metal all boxes metal (entry.Rule r) = false
-writes_metal all boxes metal (entry.Space real gap) = false
-writes_metal all boxes metal (entry.Label layer real) = false
-writes_metal all boxes metal entry.Nothing = false
-
--- some line does
-abbrev pub is_written : List Entry → List RealBox → ℕ → Bool
-is_written all boxes metal = list_any (writes_metal all boxes metal) all
-
--- all metal that is shown is written: a via's upper pad is on the metal above
-abbrev pub are_written : List Entry → List RealBox → Option ℕ → Bool → Bool
-are_written all boxes None joins = true
-are_written all boxes (Some metal) joins = is_written all boxes metal && (not joins || is_written all boxes (metal + 1))
-
-abbrev pub is_kept : ProcessTable → Mark → Bool
-is_kept t m = are_written t.entries (boxes_by t.entries t.head.scale t.entries m) m.metal m.joins
 
 -- the first mark whose metal would be lost
 abbrev pub first_lost : ProcessTable → List Mark → Option Mark

@@ -4,7 +4,8 @@ ghost use Rattle.sym_geom.specs.Rect.{HasReach};
 ghost use Rattle.real_table.specs.Bounds.{IsProcessTable};
 ghost use Rattle.real_boxes.specs.declared.error.ProcessError.TheVariants as error;
 ghost use Rattle.real_boxes.specs.Bounds.{ReachAll};
-ghost use Rattle.real_boxes.specs.Refused.{IsLostRefusal, first_lost, first_unfit as first_unfit_of, fits as fits_grid, has_box_on as has_box, is_kept as is_kept_mark, is_multiple as is_multiple_of, is_written as is_written_by, writes_metal};
+ghost use Rattle.real_boxes.specs.Metals.{is_kept as is_kept_mark, is_layer_of as is_layer_of_metal, is_written as is_written_by, metal_box as box_of_metal, writes_on as entry_writes_on};
+ghost use Rattle.real_boxes.specs.Refused.{IsLostRefusal, first_lost, first_unfit as first_unfit_of, fits as fits_grid, is_multiple as is_multiple_of};
 
 use crate::boxes::{RealBox, layer_of, put_boxes};
 use crate::error::ProcessError;
@@ -13,16 +14,9 @@ use real_table::{Entry, ProcessTable};
 use std::alloc::{AllocError, Global};
 use sym_geom::Rect;
 
-/// Whether some box is on a layer.
-fn has_box_on(boxes: &[RealBox], layer: u64) -> bool
-    ensures { result ≡ has_box layer boxes.now }
-{
-    boxes.iter().any(|one| one.layer == layer)
-}
-
-/// Whether a line of the table writes a metal where there is one of these boxes.
-fn writes(table: &ProcessTable, entry: &Entry, boxes: &[RealBox], metal: u8) -> bool
-    ensures { result ≡ writes_metal table.now.entries boxes.now metal entry.now }
+/// Whether a line of the table writes a metal on a layer.
+fn writes_on(table: &ProcessTable, metal: u8, layer: u64, entry: &Entry) -> bool
+    ensures { result ≡ entry_writes_on table.now.entries metal layer entry.now }
 {
     let Entry::Metal { metal: own, real } = entry else {
         return false;
@@ -30,19 +24,40 @@ fn writes(table: &ProcessTable, entry: &Entry, boxes: &[RealBox], metal: u8) -> 
     if *own != metal {
         return false;
     }
-    let layer = layer_of(table.entries.as_slice(), real.as_bytes()) as u64;
-    has_box_on(boxes, layer)
+    layer_of(table.entries.as_slice(), real.as_bytes()) as u64 == layer
 }
 
-/// Whether some line of the table writes a metal where there is one of these boxes.
-fn is_written(table: &ProcessTable, boxes: &[RealBox], metal: u8) -> bool
-    ensures { result ≡ is_written_by table.now.entries boxes.now metal }
+/// Whether some line of the table writes a metal on a layer.
+fn is_layer_of(table: &ProcessTable, metal: u8, layer: u64) -> bool
+    ensures { result ≡ is_layer_of_metal table.now.entries metal layer }
 {
     table
         .entries
         .as_slice()
         .iter()
-        .any(|entry| writes(table, entry, boxes, metal))
+        .any(|entry| writes_on(table, metal, layer, entry))
+}
+
+/// The first of these boxes on a layer where a metal is written.
+fn metal_box(table: &ProcessTable, boxes: &[RealBox], metal: u8) -> Option<RealBox>
+    ensures { result ≡ box_of_metal table.now.entries metal boxes.now }
+{
+    for one in boxes {
+        if is_layer_of(table, metal, one.layer) {
+            return Some(*one);
+        }
+    }
+    None
+}
+
+/// Whether a metal, if it is one, has one of these boxes.
+fn is_written(table: &ProcessTable, boxes: &[RealBox], metal: Option<u8>) -> bool
+    ensures { result ≡ is_written_by table.now.entries boxes.now metal }
+{
+    match metal {
+        Some(metal) => metal_box(table, boxes, metal).is_some(),
+        None => true,
+    }
 }
 
 /// Whether each metal that a mark shows is written.
@@ -51,15 +66,9 @@ fn is_kept(alloc: Global, table: &ProcessTable, mark: &Mark) -> Result<bool, All
     requires reach { HasReach mark.now.core }
     ensures { IfOk result (λ kept. kept ≡ is_kept_mark table.now mark.now) }
 {
-    let Some(metal) = mark.metal else {
-        return Ok(true);
-    };
     let mut boxes = Vec::new(alloc);
     put_boxes(&mut boxes, table, mark)?;
-    if !is_written(table, &boxes, metal) {
-        return Ok(false);
-    }
-    Ok(!mark.joins || is_written(table, &boxes, metal + 1))
+    Ok(is_written(table, &boxes, mark.metal) && is_written(table, &boxes, mark.above))
 }
 
 fn lost(alloc: Global, mark: &Mark) -> ProcessError

@@ -2,15 +2,15 @@
 ghost use Rattle.std.specs.Prelude.{◌≡◌, ◌++◌, ◌∷◌, [], IfOk, OnOk, All};
 ghost use Rattle.sym_geom.specs.declared.item.Item.TheVariants as item;
 ghost use Rattle.cougar_extract.specs.Stages.{HasCellEdges};
-ghost use Rattle.sym_geom.specs.Items.{IsReadySegment};
+ghost use Rattle.sym_geom.specs.Items.{IsReadySegment, lower_metal as lower_metal_of};
 ghost use Rattle.sym_shapes.specs.Ready.{IsReady, IsReadyConnector};
-ghost use Rattle.real_boxes.specs.Marks.{connector_core as core_of_connector, drawn_marks, is_upright as runs_upright, item_marks, segment_core as core_of_segment, shortened as shortened_rect};
+ghost use Rattle.real_boxes.specs.Marks.{connector_core as core_of_connector, drawn_marks, is_upright as runs_upright, item_marks, metal_above, segment_core as core_of_segment, shortened as shortened_rect};
 
 use crate::words::{contact_word, layer_word};
 use s2r_cif::lower_metal;
 use std::alloc::{AllocError, Global};
 use sym_geom::{
-    Connector, Direction, Item, Rect, Segment, Via, WIRE_OVERHANG, connector_rect, metal_of,
+    Connector, Contact, Direction, Item, Rect, Segment, Via, WIRE_OVERHANG, connector_rect, metal_of,
     segment_rect,
 };
 use vlsi_base::Text;
@@ -22,8 +22,8 @@ pub struct Mark {
     pub word: Text,
     /// The metal that it shows, from 1 to 6, if it does; of a via the lower of the two that it joins.
     pub metal: Option<u8>,
-    /// A contact, which shows the next metal too where it shows one.
-    pub joins: bool,
+    /// The metal above, which a via shows too.
+    pub above: Option<u8>,
     /// It runs upright, so that its ends lie above one another.
     pub upright: bool,
     /// The rectangle between its ends: without the overhang of a wire.
@@ -88,7 +88,7 @@ fn segment_mark(alloc: Global, segment: &Segment) -> Result<Mark, AllocError>
     Ok(Mark {
         word: layer_word(alloc, segment.layer)?,
         metal: metal_of(segment.layer),
-        joins: false,
+        above: None,
         upright: is_upright(segment.direction),
         core: segment_core(segment),
     })
@@ -101,10 +101,24 @@ fn connector_mark(alloc: Global, connector: &Connector) -> Result<Mark, AllocErr
     Ok(Mark {
         word: layer_word(alloc, connector.layer)?,
         metal: metal_of(connector.layer),
-        joins: false,
+        above: None,
         upright: true,
         core: connector_core(connector),
     })
+}
+
+/// The upper of the metals that a contact joins, if it joins two.
+fn upper_metal(contact: &Contact) -> Option<u8>
+    ensures { result ≡ metal_above (lower_metal_of contact.now) }
+{
+    match contact {
+        Contact::Via1 => Some(2),
+        Contact::Via2 => Some(3),
+        Contact::Via3 => Some(4),
+        Contact::Via4 => Some(5),
+        Contact::Via5 => Some(6),
+        Contact::Other(_) => None,
+    }
 }
 
 fn contact_mark(alloc: Global, via: &Via) -> Result<Mark, AllocError>
@@ -113,7 +127,7 @@ fn contact_mark(alloc: Global, via: &Via) -> Result<Mark, AllocError>
     Ok(Mark {
         word: contact_word(alloc, &via.contact)?,
         metal: lower_metal(&via.contact),
-        joins: true,
+        above: upper_metal(&via.contact),
         upright: true,
         core: Rect {
             x1: via.x,

@@ -1,5 +1,5 @@
 // Boxes on one layer that are nearer than the table says.
-ghost use Rattle.std.specs.Prelude.{◌≡◌, ◌++◌, ◌∷◌, [], ◌⊎◌, ◌<◌, ◌≤◌, ◌^◌, IfErr, IfOk, OnOk, MatchOption, All, length};
+ghost use Rattle.std.specs.Prelude.{◌≡◌, ◌++◌, ◌∷◌, [], ◌⊎◌, ◌<◌, ◌^◌, IfErr, IfOk, OnOk, MatchOption, All, length};
 ghost use Rattle.sym_near.specs.Related.{shape_at};
 ghost use Rattle.real_boxes.specs.declared.error.ProcessError.TheVariants as error;
 ghost use Rattle.real_boxes.specs.Refused.{IsEntryRefusal, IsFirstNear, IsNearRefusal, KeepsApart, NoneNear, on_layer};
@@ -27,8 +27,7 @@ fn put_shape(shapes: &mut Vec<Shape>, one: &RealBox, layer: u64) -> Result<(), A
 
 /// The boxes on a layer as shapes of one metal, in their order.
 fn shapes_on(alloc: Global, boxes: &[RealBox], layer: u64) -> Result<Vec<Shape>, AllocError>
-    ensures value { IfOk result (λ shapes. shapes.items ≡ shapes_of (on_layer layer boxes.now)) }
-    ensures few { IfOk result (λ shapes. length shapes.items ≤ length boxes.now) }
+    ensures { IfOk result (λ shapes. shapes.items ≡ shapes_of (on_layer layer boxes.now)) }
 {
     let mut shapes = Vec::new(alloc);
     for one in boxes {

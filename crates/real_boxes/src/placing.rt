@@ -62,7 +62,7 @@ fn placed(alloc: Global, cell: &Cell, instance: &Instance, mark: &Mark) -> Resul
     Ok(Mark {
         word: mark.word.copy(alloc)?,
         metal: mark.metal,
-        joins: mark.joins,
+        above: mark.above,
         upright: mark.upright,
         core: placed_rect(cell, instance, &mark.core),
     })

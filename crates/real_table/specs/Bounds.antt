@@ -21,6 +21,7 @@ pub record IsGrowth (g : Growth) : Type 0 where
 pub record IsHeadWithin (h : Head) : Type 0 where
   pub unit_least : 1 ≤ h.unit
   pub unit : h.unit ≤ MOST_UNIT
+  pub scale_least : 1 ≤ h.scale
   pub scale : h.scale ≤ MOST_UNIT
   pub grid_least : 1 ≤ h.grid
   pub grid : h.grid ≤ MOST_UNIT
