@@ -1,5 +1,5 @@
 pub mod Reaches
 pub mod Layers
-pub mod Judging
-pub mod Near
-pub mod Making
+pub mod Firsts
+pub mod Closest
+pub mod Stages

@@ -1,5 +1,5 @@
 use Rattle.std.proofs.Common.{arith, rules}
-use Rattle.real_boxes.proofs.Near.{close_at, apart_next, apart_all}
+use Rattle.real_boxes.proofs.Closest.{close_at, apart_next, apart_all}
 use Rattle.real_boxes.proofs.near.keep_apart.Goals as goal
 
 pub loop-entry-preserved : goal.loop-entry-preserved
