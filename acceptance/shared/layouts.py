@@ -253,29 +253,18 @@ def check_refusals(results):
 # ---- through other programs
 
 
-def turned(item, instance, box):
-    """A line of a cell as an instance shows it."""
-    left, foot, right, top = box
-
-    def at(x, y):
-        x, y, _, _ = instance.shown((x, y, x, y), (left, foot, right, top))
-        return x, y
-
-    if item[0] == "S":
-        return ("S", *at(item[1], item[2]), *at(item[3], item[4]), *item[5:])
-    return (item[0], *at(item[1], item[2]), *item[3:])
-
-
-def all_items(figure, cells):
-    yield from (item for item in figure.items if item[0] in "SVC")
-    for instance in instances_of(figure):
-        cell = cells[instance.model].figure
-        yield from (turned(item, instance, cell.box) for item in cell.items if item[0] in "SVC")
+def shown_boxes(instance, cell, table):
+    """The boxes of what an instance shows of its cell."""
+    for item in cell.items:
+        if real.word_of(item):
+            upright, core = real.core_of(item)
+            yield from real.boxes_about(real.word_of(item), upright, instance.shown(core, cell.box), table)
 
 
 def boxes_in(figure, cells, table):
     """All boxes of a layout in real units, flat, by layers."""
-    return [found for item in all_items(figure, cells) for found in real.boxes_of(item, table)]
+    own = [found for item in figure.items for found in real.boxes_of(item, table)]
+    return own + [found for instance in instances_of(figure) for found in shown_boxes(instance, cells[instance.model].figure, table)]
 
 
 def write_boxes(path, boxes, times, names=None):
