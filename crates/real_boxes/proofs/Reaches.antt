@@ -81,6 +81,17 @@ run_edges Down s h = upright_edges s h
 run_edges Left s h = level_edges s h
 run_edges Right s h = level_edges s h
 
+-- a rectangle without the overhang, from its edges
+pub shortened_up : (u : Bool) (r : Rect) (a b c d : ℤ) → u ≡ true → a ≡ r.x1 → b ≡ r.y1 +ℤ pos 100 → c ≡ r.x2 → d ≡ r.y2 -ℤ pos 100
+    → ◌≡◌ {A = Rect} (record { x1 = a; y1 = b; x2 = c; y2 = d }) (shortened u r)
+shortened_up u r a b c d is p q v w =
+    subst (λ (t : Bool). ◌≡◌ {A = Rect} (record { x1 = a; y1 = b; x2 = c; y2 = d }) (shortened t r)) (sym is) (λ i. record { x1 = p i; y1 = q i; x2 = v i; y2 = w i })
+
+pub shortened_level : (u : Bool) (r : Rect) (a b c d : ℤ) → u ≡ false → a ≡ r.x1 +ℤ pos 100 → b ≡ r.y1 → c ≡ r.x2 -ℤ pos 100 → d ≡ r.y2
+    → ◌≡◌ {A = Rect} (record { x1 = a; y1 = b; x2 = c; y2 = d }) (shortened u r)
+shortened_level u r a b c d is p q v w =
+    subst (λ (t : Bool). ◌≡◌ {A = Rect} (record { x1 = a; y1 = b; x2 = c; y2 = d }) (shortened t r)) (sym is) (λ i. record { x1 = p i; y1 = q i; x2 = v i; y2 = w i })
+
 -- ---- the rectangles as wires
 
 hundred : IsCoordinate (pos 100)

@@ -20,11 +20,17 @@ use Rattle.real_boxes.specs.Marks.{segment_core, connector_core}
 
 -- ---- layers
 
--- the line of a box: its length and width, and the point in its middle, in halves of a real unit
+-- how long a box is along x and along y, in halves of a real unit
+abbrev pub size_text : Rect → List ℕ
+size_text r = number_text (pos 2 *ℤ (r.x2 -ℤ r.x1)) ++ number_text (pos 2 *ℤ (r.y2 -ℤ r.y1))
+
+-- the point in its middle
+abbrev pub centre_text : Rect → List ℕ
+centre_text r = number_text (r.x1 +ℤ r.x2) ++ number_text (r.y1 +ℤ r.y2)
+
+-- the line of a box
 abbrev pub box_line : Rect → List ℕ
-box_line r =
-    codes "B" ++ (number_text (pos 2 *ℤ (r.x2 -ℤ r.x1)) ++ (number_text (pos 2 *ℤ (r.y2 -ℤ r.y1))
-    ++ (number_text (r.x1 +ℤ r.x2) ++ (number_text (r.y1 +ℤ r.y2) ++ codes ";\n"))))
+box_line r = codes "B" ++ (size_text r ++ (centre_text r ++ codes ";\n"))
 
 abbrev pub line_on : ℕ → RealBox → List ℕ
 line_on layer b = if b.layer == layer then box_line b.rect else []
@@ -64,11 +70,17 @@ bit_text (Some k) = codes "[" ++ (decimal k ++ codes "]")
 abbrev pub label_name : Name → List ℕ
 label_name n = n.text ++ bit_text n.bit
 
--- the text of a connector in its middle, in halves of a real unit
+-- the point in the middle of a connector, in halves of a real unit
+abbrev pub place_text : ℕ → Rect → List ℕ
+place_text scale r = number_text (pos scale *ℤ (r.x1 +ℤ r.x2)) ++ number_text (pos scale *ℤ (r.y1 +ℤ r.y2))
+
+-- the real layer of a text, which ends its line
+abbrev pub layer_end : List ℕ → List ℕ
+layer_end real = codes " " ++ (real ++ codes ";\n")
+
+-- the text of a connector: its name, at its middle
 abbrev pub label_line : ℕ → Port → List ℕ → List ℕ
-label_line scale p real =
-    codes "94 " ++ (label_name p.name ++ (number_text (pos scale *ℤ (p.rect.x1 +ℤ p.rect.x2)) ++ (number_text (pos scale *ℤ (p.rect.y1 +ℤ p.rect.y2))
-    ++ (codes " " ++ (real ++ codes ";\n")))))
+label_line scale p real = codes "94 " ++ (label_name p.name ++ (place_text scale p.rect ++ layer_end real))
 
 -- by one line of the table
 abbrev pub entry_label : ℕ → Port → Entry → List ℕ

@@ -4,7 +4,7 @@ ghost use Rattle.cougar_extract.specs.Extracted.{IsReadyFigure};
 ghost use Rattle.real_table.specs.declared.table.TheConstants.{MOST_UNIT};
 ghost use Rattle.real_table.specs.Bounds.{IsProcessTable};
 ghost use Rattle.real_boxes.specs.Bounds.{AreBoxes, HasEdges, IsEdge};
-ghost use Rattle.real_boxes.specs.File.{box_line as line_of_box, entry_layer, has_layer as is_there, heading_text, layers_from, line_on as line_of_layer, lines_on, name_line as line_of_name, process_text};
+ghost use Rattle.real_boxes.specs.File.{box_line as line_of_box, centre_text, entry_layer, has_layer as is_there, heading_text, layers_from, line_on as line_of_layer, lines_on, name_line as line_of_name, process_text, size_text};
 
 use crate::boxes::RealBox;
 use crate::labels::{label_name, labels, number};
@@ -32,16 +32,32 @@ fn middle(from: &i64, to: &i64) -> i64
     *from + *to
 }
 
+/// How long a box is along x and along y.
+fn sizes(alloc: Global, out: &mut FileBytes, rect: &Rect) -> Result<(), AllocError>
+    requires { HasEdges rect.now }
+    ensures { OnOk result (out.new ≡ out.old ++ size_text rect.now) }
+{
+    number(alloc, out, &span(&rect.x1, &rect.x2))?;
+    number(alloc, out, &span(&rect.y1, &rect.y2))
+}
+
+/// The point in the middle of a box.
+fn centre(alloc: Global, out: &mut FileBytes, rect: &Rect) -> Result<(), AllocError>
+    requires { HasEdges rect.now }
+    ensures { OnOk result (out.new ≡ out.old ++ centre_text rect.now) }
+{
+    number(alloc, out, &middle(&rect.x1, &rect.x2))?;
+    number(alloc, out, &middle(&rect.y1, &rect.y2))
+}
+
 /// The line of a box.
 fn box_line(alloc: Global, out: &mut FileBytes, rect: &Rect) -> Result<(), AllocError>
     requires { HasEdges rect.now }
     ensures { OnOk result (out.new ≡ out.old ++ line_of_box rect.now) }
 {
     out.append(b"B")?;
-    number(alloc, out, &span(&rect.x1, &rect.x2))?;
-    number(alloc, out, &span(&rect.y1, &rect.y2))?;
-    number(alloc, out, &middle(&rect.x1, &rect.x2))?;
-    number(alloc, out, &middle(&rect.y1, &rect.y2))?;
+    sizes(alloc, out, rect)?;
+    centre(alloc, out, rect)?;
     out.append(b";\n")
 }
 

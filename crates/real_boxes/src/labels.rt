@@ -7,7 +7,7 @@ ghost use Rattle.sym_geom.specs.declared.item.Item.TheVariants as item;
 ghost use Rattle.sym_shapes.specs.Ready.{IsReady};
 ghost use Rattle.s2r_cif.specs.Cif.{number_text};
 ghost use Rattle.real_table.specs.declared.table.TheConstants.{MOST_UNIT};
-ghost use Rattle.real_boxes.specs.File.{entry_label, item_labels, item_port as port_of, label_line as line_of_label, label_name as name_of_label, labels_by, labels_of as labels_of_lines, named_port as port_with};
+ghost use Rattle.real_boxes.specs.File.{entry_label, item_labels, item_port as port_of, label_line as line_of_label, label_name as name_of_label, labels_by, labels_of as labels_of_lines, layer_end, named_port as port_with, place_text};
 
 use crate::mark::{connector_core, segment_core};
 use crate::words::layer_word;
@@ -60,6 +60,25 @@ fn middle(scale: u32, from: &i64, to: &i64) -> i64
     scaled(scale, &(*from + *to))
 }
 
+/// The point in the middle of a connector.
+fn place(alloc: Global, out: &mut FileBytes, scale: u32, rect: &Rect) -> Result<(), AllocError>
+    requires scale { scale ≤ MOST_UNIT }
+    requires edges { HasCellEdges rect.now }
+    ensures { OnOk result (out.new ≡ out.old ++ place_text scale rect.now) }
+{
+    number(alloc, out, &middle(scale, &rect.x1, &rect.x2))?;
+    number(alloc, out, &middle(scale, &rect.y1, &rect.y2))
+}
+
+/// The real layer of a text, which ends its line.
+fn end_line(out: &mut FileBytes, real: &[u8]) -> Result<(), AllocError>
+    ensures { OnOk result (out.new ≡ out.old ++ layer_end real.now) }
+{
+    out.append(b" ")?;
+    out.append(real)?;
+    out.append(b";\n")
+}
+
 /// The text of a connector in its middle.
 fn label_line(
     alloc: Global,
@@ -72,14 +91,10 @@ fn label_line(
     requires edges { HasCellEdges port.now.rect }
     ensures { OnOk result (out.new ≡ out.old ++ line_of_label scale port.now real.now) }
 {
-    let r = &port.rect;
     out.append(b"94 ")?;
     label_name(alloc, out, &port.name)?;
-    number(alloc, out, &middle(scale, &r.x1, &r.x2))?;
-    number(alloc, out, &middle(scale, &r.y1, &r.y2))?;
-    out.append(b" ")?;
-    out.append(real)?;
-    out.append(b";\n")
+    place(alloc, out, scale, &port.rect)?;
+    end_line(out, real)
 }
 
 /// The text that a line of the table gives a connector, if it does.

@@ -1,5 +1,5 @@
 // The boxes of a layout.
-ghost use Rattle.std.specs.Prelude.{◌≡◌, ◌⊎◌, ◌<◌, ◌^◌, All, None, IfErr, IfOk, OnOk, length};
+ghost use Rattle.std.specs.Prelude.{◌≡◌, ◌⊎◌, ◌<◌, ◌≤◌, ◌^◌, All, None, IfErr, IfOk, OnOk, length};
 ghost use Rattle.vlsi_base.specs.Member.{In};
 ghost use Rattle.sym_geom.specs.Rect.{IsCoordinate};
 ghost use Rattle.sym_geom.specs.declared.item.Instance.{Instance as PlacedInstance};
@@ -75,17 +75,22 @@ fn name_of(entries: &[Entry], layer: u64) -> &Text
     }
 }
 
-/// Refuses the first box that doesn't fit.
-fn check_fit(alloc: Global, table: &ProcessTable, boxes: &[RealBox]) -> Result<(), ProcessError>
-    requires table { IsProcessTable table.now }
-    requires layers { AreOnLayers table.now.entries boxes.now }
-    ensures fit { OnOk result (first_unfit_of table.now.head.grid boxes.now ≡ None) }
-    ensures refused { IfErr result (λ e. IsFitRefusal table.now.entries table.now.head.grid boxes.now e) }
+/// Refuses the first box that doesn't fit the grid, or has no area.
+fn check_fit(
+    alloc: Global,
+    entries: &[Entry],
+    grid: u32,
+    boxes: &[RealBox],
+) -> Result<(), ProcessError>
+    requires grid { 1 ≤ grid }
+    requires layers { AreOnLayers entries.now boxes.now }
+    ensures fit { OnOk result (first_unfit_of grid boxes.now ≡ None) }
+    ensures refused { IfErr result (λ e. IsFitRefusal entries.now grid boxes.now e) }
 {
-    let Some(one) = first_unfit(table.head.grid, boxes) else {
+    let Some(one) = first_unfit(grid, boxes) else {
         return Ok(());
     };
-    let real = name_of(table.entries.as_slice(), one.layer);
+    let real = name_of(entries, one.layer);
     Err(unfit(alloc, real, one.rect))
 }
 
@@ -111,8 +116,9 @@ fn check_boxes(alloc: Global, table: &ProcessTable, boxes: &[RealBox]) -> Result
             reached: boxes.len() as u64,
         }));
     }
-    check_fit(alloc, table, boxes)?;
-    keep_apart(alloc, table.entries.as_slice(), boxes)
+    let entries = table.entries.as_slice();
+    check_fit(alloc, entries, table.head.grid, boxes)?;
+    keep_apart(alloc, entries, boxes)
 }
 
 /// The boxes of what is drawn.
