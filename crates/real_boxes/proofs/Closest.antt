@@ -19,6 +19,7 @@ use Rattle.real_table.specs.declared.table.Entry.TheVariants as entry
 use Rattle.real_boxes.specs.declared.boxes.RealBox.{RealBox}
 use Rattle.real_boxes.specs.declared.error.ProcessError.{ProcessError}
 use Rattle.real_boxes.specs.declared.error.ProcessError.TheVariants as errors
+use Rattle.real_boxes.specs.Boxes.{layer_of}
 use Rattle.real_boxes.specs.Refused.{on_layer, rect_at, no_rect, AreNear, NoneNear, IsFirstNear, KeepsApart, IsFirstClose, IsEntryRefusal, IsNearRefusal}
 use Rattle.real_boxes.specs.Shapes.{shape_of, shapes_of}
 
@@ -126,6 +127,21 @@ few_on boxes layer shapes are few =
     let most = shorter (λ (b : RealBox). b.layer == layer) boxes in omega (arith, n, m, most, few)
 
 -- ---- lines of the table
+
+pub entry_refused : (all : List Entry) (boxes : List RealBox) (one : Entry) (real : List ℕ) (gap layer : ℕ) (a b : Rect) (e : ProcessError) → one ≡ entry.Space real gap
+    → layer ≡ layer_of all real → IsFirstNear (on_layer layer boxes) gap a b → (e ≡ errors.Memory) ⊎ (e ≡ errors.Near real a b) → IsEntryRefusal all boxes one e
+entry_refused all boxes one real gap layer a b e is at near h =
+    subst (λ (x : Entry). IsEntryRefusal all boxes x e) (sym is)
+    (elim h [
+      | inl m ↦ subst (λ (y : ProcessError). IsEntryRefusal all boxes (entry.Space real gap) y) (sym m) tt
+      | inr n ↦ subst (λ (y : ProcessError). IsEntryRefusal all boxes (entry.Space real gap) y) (sym n)
+          (refl, subst (λ (k : ℕ). IsFirstNear (on_layer k boxes) gap a b) at near)
+    ])
+
+pub entry_apart : (all : List Entry) (boxes : List RealBox) (one : Entry) (real : List ℕ) (gap layer : ℕ) → one ≡ entry.Space real gap → layer ≡ layer_of all real
+    → NoneNear (on_layer layer boxes) gap → KeepsApart all boxes one
+entry_apart all boxes one real gap layer is at none =
+    subst (λ (x : Entry). KeepsApart all boxes x) (sym is) (subst (λ (k : ℕ). NoneNear (on_layer k boxes) gap) at none)
 
 close_of : (all : List Entry) (boxes : List RealBox) (before behind : List Entry) (one : Entry) (e : ProcessError) → all ≡ before ++ one ∷ behind → All (KeepsApart all boxes) before
     → IsEntryRefusal all boxes one e → IsNearRefusal all boxes e

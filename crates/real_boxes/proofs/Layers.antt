@@ -46,13 +46,16 @@ line_in all r i = let p = place-In (entry.Rule r) all i in line_on all r p.0 p.1
 
 -- ---- boxes
 
+-- a list of one element, or of none
+pub only : (P : RealBox → Type 0) (t : Bool) (b x : RealBox) → P x → In b (if t then x ∷ [] else []) → P b
+only P true b x h here = h
+only P true b x h (there j) = elim j [ ]
+only P false b x h j = elim j [ ]
+
 module _ (all : List Entry) (scale : ℕ) where
   rule_in : (r : Rule) (m : Mark) (b : RealBox) → IsLayer all (layer_of all r.real) → In b (rule_boxes all scale r m) → IsLayer all b.layer
-  rule_in r m b h i = by (bytes_eq r.word m.word) i where
-    by : (t : Bool) → In b (if t then record { layer = layer_of all r.real; rect = box_rect scale r.growth m.upright m.core } ∷ [] else []) → IsLayer all b.layer
-    by true here = h
-    by true (there j) = elim j [ ]
-    by false j = elim j [ ]
+  rule_in r m b h i =
+      only (λ (x : RealBox). IsLayer all x.layer) (bytes_eq r.word m.word) b (record { layer = layer_of all r.real; rect = box_rect scale r.growth m.upright m.core }) h i
 
   by_in : (rest : List Entry) (m : Mark) (b : RealBox) → ((e : Entry) → In e rest → In e all) → In b (boxes_by all scale rest m) → IsLayer all b.layer
   by_in [] m b each i = elim i [ ]

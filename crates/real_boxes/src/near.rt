@@ -82,8 +82,9 @@ fn check_entry(
         return Ok(());
     };
     let layer = layer_of(entries, real.as_bytes()) as u64;
-    match first_near(alloc, boxes, layer, *gap)? {
-        Some((a, b)) => Err(too_near(alloc, real, a, b)),
+    let found = first_near(alloc, boxes, layer, *gap)?;
+    match found {
+        Some(two) => Err(too_near(alloc, real, two.0, two.1)),
         None => Ok(()),
     }
 }
