@@ -30,7 +30,7 @@ from acceptance.running import baseline, below_metal, documents, front  # noqa: 
 from acceptance.running.case_file import case_files  # noqa: E402
 from acceptance.running.cases import check_case  # noqa: E402
 from acceptance.running.results import Results  # noqa: E402
-from acceptance.shared import brought, course, explained, installed, layouts, liberty, pages, pictures, programs, rechecks  # noqa: E402
+from acceptance.shared import brought, course, explained, installed, layouts, liberty, pages, pictures, programs, real_layers, rechecks  # noqa: E402
 from acceptance.tools import cut_files, real_faults  # noqa: E402
 from acceptance.tools.table import TOOLS  # noqa: E402
 
@@ -51,6 +51,7 @@ def jobs_of(program, probe, cell_probe, maze_probe, seed, times):
     yield from installed.jobs(program)
     yield from below_metal.jobs(program)
     yield from layouts.jobs(program)
+    yield from real_layers.jobs(program)
     yield from rechecks.jobs(program)
     yield from real_faults.jobs(program)
     yield from cut_files.jobs(program)

@@ -1,6 +1,6 @@
 #!/usr/bin/env bash
 # Looks at real layouts with tools that others made: the rules of MOSIS processes by Magic, in two reading styles, and by Netgen whether the
-# transistors that Magic extracts are those of the netlist. The layouts are what `share/cif` makes by the tables of examples/real.
+# transistors that Magic extracts are those of the netlist. The layouts are what `s2r` writes by the tables of examples/real.
 #
 # Usage: bench/silicon.sh PROGRAM [SOURCE..]
 #

@@ -26,6 +26,8 @@ MARKED = [
     ("p.fsm", LOCK.replace("-- pragma CLOCK", "-- CLOCK"), "syf: p.fsm:1: no pragma", ["`-- pragma CLOCK NAME`"]),
     ("e.vbe", "entity a is\nport (ck : in bit; q : out bit);\nend a;\narchitecture b of a is\nbegin\n  if ck'event then q <= '1'; end if;\nend b;\n",
      "boom: e.vbe:6: syntax", ["The token `if` stands here", "A register is written in a block"]),
+    ("l.ap", "V ALLIANCE : 6\n", "s2r: l.ap:1: unsupported CONT_VIA", ["CONT_VIA shows metal that the table of the process doesn't write."]),
+    ("m.ap", "V ALLIANCE : 6\n", "s2r: m.ap:1: unsupported ram_x1", ["Instances of ram_x1 have no real layout"]),
 ]
 # Words of a command that spell none, and what is said of them.
 SPELLED = [

@@ -253,29 +253,18 @@ def check_refusals(results):
 # ---- through other programs
 
 
-def turned(item, instance, box):
-    """A line of a cell as an instance shows it."""
-    left, foot, right, top = box
-
-    def at(x, y):
-        x, y, _, _ = instance.shown((x, y, x, y), (left, foot, right, top))
-        return x, y
-
-    if item[0] == "S":
-        return ("S", *at(item[1], item[2]), *at(item[3], item[4]), *item[5:])
-    return (item[0], *at(item[1], item[2]), *item[3:])
-
-
-def all_items(figure, cells):
-    yield from (item for item in figure.items if item[0] in "SVC")
-    for instance in instances_of(figure):
-        cell = cells[instance.model].figure
-        yield from (turned(item, instance, cell.box) for item in cell.items if item[0] in "SVC")
+def shown_boxes(instance, cell, table):
+    """The boxes of what an instance shows of its cell."""
+    for item in cell.items:
+        if real.word_of(item):
+            upright, core = real.core_of(item)
+            yield from real.boxes_about(real.word_of(item), upright, instance.shown(core, cell.box), table)
 
 
 def boxes_in(figure, cells, table):
     """All boxes of a layout in real units, flat, by layers."""
-    return [found for item in all_items(figure, cells) for found in real.boxes_of(item, table)]
+    own = [found for item in figure.items for found in real.boxes_of(item, table)]
+    return own + [found for instance in instances_of(figure) for found in shown_boxes(instance, cells[instance.model].figure, table)]
 
 
 def write_boxes(path, boxes, times, names=None):
@@ -369,7 +358,8 @@ def gds_jobs(room, program, path, title, table, process, boxes):
     if done.returncode == 0:
         of_cif = made.with_suffix(".cif.boxes")
         found = cif.read((room.folder / "l.cif").read_bytes())
-        write_boxes(of_cif, [(layer, tuple(map(int, box))) for layer, all_boxes in found.items() for box in all_boxes], times, names)
+        in_units = [(layer, tuple(int(edge * process.table.unit) for edge in box)) for layer, all_boxes in found.items() for box in all_boxes]
+        write_boxes(of_cif, in_units, times, names)
         yield made, "-", of_cif, 1 / process.units
 
 

@@ -12,7 +12,7 @@ from acceptance.makers.layout_maker import LayoutMaker
 from acceptance.makers.random_sources import Maker
 from acceptance.readers.words import command, held, trouble
 from acceptance.running.results import Room, shown
-from acceptance.tools import flow
+from acceptance.tools import flow, process
 from acceptance.tools.answers import agrees, refusal
 from acceptance.tools.boog import of_cells
 from acceptance.tools.druc import cells_in, told
@@ -28,7 +28,7 @@ SCALE = re.compile(rb"scale ([0-9]{1,20})")
 GROW = re.compile(rb"grow" + rb" ([0-9]{1,20})" * 6)
 MOST_SCALE, MOST_GROW, CUT, METALS = 1000, 1000000, 100, 6
 CONTACTS = {b"CONT_VIA": 1, b"CONT_VIA2": 2, b"CONT_VIA3": 3, b"CONT_VIA4": 4, b"CONT_VIA5": 5}
-LAYOUTS, LADDERS, DRAWN, TABLES, CHUNK = 200, 60, 24, 120, 12
+LAYOUTS, LADDERS, DRAWN, TABLES, PROCESSES, CHUNK = 200, 60, 24, 120, 60, 12
 
 
 # ---- the second answer
@@ -106,6 +106,9 @@ class Real:
                 x, y, half = item[1], item[2], CUT // 2
                 self.cuts.setdefault(CONTACTS[item[3]], []).append(grown((x - half, y - half, x + half, y + half), table.scale, 0))
 
+    def count(self):
+        return len(self.shapes)
+
     def text(self):
         """The file, byte for byte."""
         lines = ["DS 1 1 2;"]
@@ -121,11 +124,13 @@ def real_of(found, files):
     source, table, folder, _ = found
     cells = cells_in(files, folder)
     figure = ap.read(held(files, source))
+    text = held(files, table)
+    of_process = text.startswith(b"process ")
     try:
-        by = Table(held(files, table))
+        by = process.Table(text) if of_process else Table(text)
     except ap.Refused as refused:
         raise Refusal(2, f"{table}:{str(refused).replace(' ', ': ', 1)}") from None
-    return Real(figure, cells, by)
+    return process.Layout(figure, cells, by) if of_process else Real(figure, cells, by)
 
 
 def second(words, files):
@@ -146,9 +151,9 @@ def second(words, files):
         return refusal("s2r", source, said if said.startswith("limit ") else f"input {said}")
     except extraction.Refused as refused:
         return refused.status, f"s2r: {source}:{refused.line}\n"
-    except Near as near:
-        return 11, f"s2r: {near}\n"
-    return 0, f"boxes {len(real.shapes)}\n"
+    except (Near, process.Wrong) as wrong:
+        return 11, f"s2r: {wrong}\n"
+    return 0, f"boxes {real.count()}\n"
 
 
 # ---- what is written
@@ -174,7 +179,9 @@ def joint_faults(real, boxes):
 
 
 def written_faults(real, text):
-    """What is wrong with the file of a real layout, which is read again."""
+    """What is wrong with the file of a real layout, which is read again where it is one of a plain table."""
+    if isinstance(real, process.Layout):
+        return [] if text == real.text() else ["other bytes"]
     try:
         boxes = cif.read(text)
     except (ValueError, UnicodeDecodeError) as wrong:
@@ -317,8 +324,47 @@ def check_tables(results, program, seed, numbers):
             run_made(results, room, program, "a table", {**files, "r.ap": text, "t.real": table})
 
 
+def random_process(choose):
+    """A table of a process, of which some numbers fit no grid, and some metals are missing."""
+    scale, grid = choose.choice([1, 2, 10, 999]), choose.choice([1, 1, 1, 2, 50])
+    lines = [f"process p unit {choose.choice([1, 10, 1000])} scale {scale} grid {grid}", "# made at random", ""]
+    metals = METALS if choose.random() < 0.9 else choose.randrange(METALS)
+
+    def lengths(*least, step=grid):
+        numbers = [low + step * choose.choice([0, 0, 1, 2, -1, 10]) for low in least]
+        return " ".join(map(str, numbers + ([grid * choose.randrange(-3, 4), grid * choose.randrange(-3, 4)] if choose.random() < 0.3 else [])))
+
+    def size(width):
+        return lengths(2 * width * scale, step=2 * grid)
+
+    for metal in range(1, metals + 1):
+        lines += [f"segment {layer}{metal} CM{metal} {lengths(100 * scale, 0)}" for layer in ("ALU", "CALU")] + [f"metal {metal} CM{metal}"]
+        lines += [f"space CM{metal} {choose.choice([0, 1, 100, 200, 300]) * scale}"] if choose.random() < 0.5 else []
+    for word, low in CONTACTS.items():
+        lines += [f"contact {word.decode()} {real} {size(choose.choice([50, 100]))}" for real in (f"CM{low}", f"CV{low}", f"CM{low + 1}")]
+    for layer in choose.sample(["NWELL", "NDIF", "PDIF", "NTRANS", "PTRANS", "POLY", "NTIE", "PTIE", "ALU7", "TALU1"], 6):
+        lines += [f"segment {layer} {choose.choice(['CAA', 'CPG', 'CWN'])} {lengths(0, 0)}" for _ in range(choose.randrange(1, 3))]
+    lines += [f"contact CONT_POLY CPG {size(50)}", "label CALU1 CM1", "label CALU2 CM2", "label ALU2 CM2", "gds CM1 49 0"]
+    tail = lines[1:]
+    choose.shuffle(tail)
+    return "\n".join([lines[0], *tail, ""]).encode()
+
+
+def check_processes(results, program, seed, numbers):
+    """Tables of processes at random, and damaged ones, over layouts at random."""
+    for number in numbers:
+        choose = random.Random(f"{seed} s2r process {number}")
+        files = random_library(choose)
+        with Room() as room:
+            room.write(files)
+            for _ in range(4):
+                text, table = LayoutMaker(choose, cells_in(files, "lib")).text(), random_process(choose)
+                for one in (table, random_process(choose), damaged(choose, table)):
+                    run_made(results, room, program, "a process", {**files, "r.ap": text, "t.real": one})
+
+
 def jobs(program, seed, times):
-    sets = ((DRAWN, check_drawn, 3), (LAYOUTS // 4, check_layouts, CHUNK), (LADDERS, check_ladders, 15), (TABLES, check_tables, 40))
+    sets = ((DRAWN, check_drawn, 3), (LAYOUTS // 4, check_layouts, CHUNK), (LADDERS, check_ladders, 15), (TABLES, check_tables, 40), (PROCESSES, check_processes, CHUNK))
     for many, check, chunk in sets:
         numbers = range(many * times)
         for at in range(0, len(numbers), chunk):

@@ -1,7 +1,6 @@
 """The tools of the program, as this look at real layouts calls them."""
 
 import subprocess
-import sys
 from pathlib import Path
 
 TOP = Path(__file__).resolve().parents[2]
@@ -29,10 +28,6 @@ class Program:
         return self.run("cougar", layout, "-l", self.library, "-o", output)
 
     def real(self, layout, process, output):
-        """All layers of a layout, as share/cif writes them by the table of the process."""
-        table = TABLES / f"{process.table}.real"
-        done = subprocess.run([sys.executable, TOP / "share/cif", layout, self.library, table], capture_output=True, text=True)
-        if done.returncode:
-            raise Refused(done.stderr.strip())
-        Path(f"{output}.cif").write_text(done.stdout)
-        return done.stdout
+        """All layers of a layout by the table of the process."""
+        self.run("s2r", layout, "-p", TABLES / f"{process.table}.real", "-l", self.library, "-o", output)
+        return Path(f"{output}.cif").read_text()

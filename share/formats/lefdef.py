@@ -72,7 +72,7 @@ class Process:
         word = f"CONT_VIA{low if low > 1 else ''}"
         if word not in self.table.contacts or low not in self.metals or low + 1 not in self.metals:
             return None
-        boxes = list(real.contact_boxes(("V", 0, 0, word.encode(), None), self.table))
+        boxes = list(real.boxes_about(word, True, (0, 0, 0, 0), self.table))
         cuts = [layer for layer, _ in boxes if layer not in self.of_real]
         if len(cuts) != 1:
             raise files.Trouble(f"{self.told}: {word} has {len(cuts)} cuts, where LEF has one")

@@ -134,18 +134,6 @@ def moved(box, rule):
     return box[0] + rule.x, box[1] + rule.y, box[2] + rule.x, box[3] + rule.y
 
 
-def segment_boxes(item, table):
-    _, x1, y1, x2, y2, width, _, way, layer = item
-    upright, low = way in ap.UPRIGHT, width // 2
-    xs, ys = sorted((x1, x2)), sorted((y1, y2))
-    for rule in table.segments.get(layer.decode(), ()):
-        dx, dy = (rule.across, rule.along) if upright else (rule.along, rule.across)
-        left, right = (x1 - low, x1 - low + width) if upright else xs
-        foot, top = ys if upright else (y1 - low, y1 - low + width)
-        k = table.scale
-        yield rule.real, moved((left * k - dx, foot * k - dy, right * k + dx, top * k + dy), rule)
-
-
 def as_segment(item):
     """A connector as the upright segment that shows its square."""
     _, x, y, width, name, _, _, layer = item
@@ -153,22 +141,33 @@ def as_segment(item):
     return "S", x, low + END, x, low + width - END, width, name, b"UP", layer
 
 
-def contact_boxes(item, table):
-    _, x, y, word, _ = item
-    for rule in table.contacts.get(word.decode(errors="replace"), ()):
+def core_of(item):
+    """Whether a line of a figure stands upright, and its rectangle: of a segment that between its ends, of a contact its point."""
+    if item[0] == "C":
+        return core_of(as_segment(item))
+    if item[0] == "V":
+        return True, (item[1], item[2], item[1], item[2])
+    _, x1, y1, x2, y2, width, _, way, _ = item
+    upright, low = way in ap.UPRIGHT, width // 2
+    xs, ys = sorted((x1, x2)), sorted((y1, y2))
+    return upright, (x1 - low, ys[0], x1 - low + width, ys[1]) if upright else (xs[0], y1 - low, xs[1], y1 - low + width)
+
+
+def boxes_about(word, upright, core, table):
+    """The boxes of a rectangle that this layer or contact has, as (real layer, box)."""
+    left, foot, right, top = (edge * table.scale for edge in core)
+    for rule in table.segments.get(word, ()):
+        dx, dy = (rule.across, rule.along) if upright else (rule.along, rule.across)
+        yield rule.real, moved((left - dx, foot - dy, right + dx, top + dy), rule)
+    for rule in table.contacts.get(word, ()):
         half = rule.size // 2
-        x0, y0 = x * table.scale - half, y * table.scale - half
-        yield rule.real, moved((x0, y0, x0 + rule.size, y0 + rule.size), rule)
+        yield rule.real, moved((left - half, foot - half, left - half + rule.size, foot - half + rule.size), rule)
 
 
 def boxes_of(item, table):
     """The boxes of a line of a figure, as (real layer, box); none of an instance."""
-    if item[0] == "S":
-        yield from segment_boxes(item, table)
-    elif item[0] == "C":
-        yield from segment_boxes(as_segment(item), table)
-    elif item[0] == "V":
-        yield from contact_boxes(item, table)
+    if word_of(item):
+        yield from boxes_about(word_of(item), *core_of(item), table)
 
 
 PLACES = {"S": 8, "C": 7, "V": 3}

@@ -62,7 +62,10 @@ FAULTS = {
     ),
     "unconnected": Text("The input {names} is alone on its net.", "A net with a slip of the pen in its name."),
     "no driver": Text("The net of {names} is read, and nothing drives it.", "An output pin or an input port that is missing."),
-    "bad line": Text("This line has none of the forms that the file may have.", "A field too few or too many, a width of 0, a wire called UP that runs across."),
+    "bad line": Text(
+        "This line has none of the forms that the file may have.",
+        "A field too few or too many, a width of 0, a wire called UP that runs across; in a table a second blank, a blank at the end, a number with a point.",
+    ),
     "bad layer": Text("This line names a layer that isn't in the list.", "`METAL1` where it is called `ALU1`."),
     "bad transform": Text("This line turns an instance in a way that isn't in the list.", "The words are NOSYM, SYM_X, SYM_Y and SYMXY."),
     "no end": Text("The file ends without its last line.", "A layout ends with a line `EOF`; a table has both `scale` and `grow`."),
@@ -72,6 +75,16 @@ FAULTS = {
         "The placement of another netlist, or of this one before `loon` or `scapin` changed it; another library; a layout that has wires already.",
     ),
 }
+
+# What `unsupported` means of a layout that `s2r` reads: of an instance's cell, and of a layer or contact.
+NO_GATE = Text(
+    "Instances of {first} have no real layout: the cell is no gate or plain flip-flop whose pins are single bits and whose metal is metal 1 alone.",
+    "A cell that only simulation takes, or one with a wire above metal 1.",
+)
+LOST_METAL = Text(
+    "{first} shows metal that the table of the process doesn't write.",
+    "No line `segment` or `contact` of the table for it, or no line `metal` for the layer of its box. A via needs a box on each of its two metals.",
+)
 
 CHECKS = {
     1: "its vbe isn't read as a data-flow text; `boom` of that file says where",
@@ -132,7 +145,17 @@ KINDS = {
     ),
     "different": Text("The port or instance {name} isn't the same in both netlists.", "", "What was compared: status 11"),
     "near": Text(
-        "Two shapes of layer {layer} don't touch, but their boxes would.", "Take a smaller grow of this layer in the table, or a larger scale.", "What was compared: status 11"
+        "Two shapes of metal {layer} don't touch, but their boxes would.", "Take a smaller grow of this metal in the table, or a larger scale.", "What was compared: status 11"
+    ),
+    "near boxes": Text(
+        "Two boxes on {layer} don't meet, and are nearer than the table's line `space {layer}` says. Their edges, in real units:{numbers}.",
+        "Two shapes of the layout that lie too near each other, as boxes of one net beside each other do; or a line `segment` or `contact` that grows them by too much.",
+        "What was compared: status 11",
+    ),
+    "off grid": Text(
+        "A box on {layer} has an edge that is no multiple of the table's grid, or no area. Its edges, in real units:{numbers}.",
+        "A shape of an odd width, or off the grid of the cells; or a length in the table that is no multiple of its grid, or shrinks a shape to nothing.",
+        "What was compared: status 11",
     ),
     "shorted": Text("A wire joins the ports {a} and {b}.", "`share/draw` shows it.", "What was compared: status 11"),
     "names": Text(

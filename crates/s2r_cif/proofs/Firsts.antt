@@ -21,7 +21,7 @@ use Rattle.s2r_cif.specs.Refused.{AreNear, NoneNear, IsFirstNear}
 abbrev pub pair_at : List Pair → ℕ → Pair
 pair_at ps k = get_or ps k (record { first = 0; second = 0 })
 
-abbrev Before : Pair → Pair → Type 0
+abbrev pub Before : Pair → Pair → Type 0
 Before p q = (p.first < q.first) ⊎ ((p.first ≡ q.first) × (p.second < q.second))
 
 before_so : (p q : Pair) (o1 o2 : Ordering) → MatchOrdering o1 (p.first < q.first) (p.first ≡ q.first) (q.first < p.first)
@@ -42,7 +42,7 @@ behind p (x ∷ xs) zero h low = less_before p x h.0
 behind p (x ∷ xs) (suc k) h low = behind p xs k h.1 (omega arith)
 
 -- an earlier one is before a later one
-rises : (ps : List Pair) → IsStrictlySortedBy pair_cmp ps → (i j : ℕ) → i < j → j < length ps → Before (pair_at ps i) (pair_at ps j)
+pub rises : (ps : List Pair) → IsStrictlySortedBy pair_cmp ps → (i j : ℕ) → i < j → j < length ps → Before (pair_at ps i) (pair_at ps j)
 unfolding IsStrictlySortedBy
 rises [] s i j order low = absurd (omega arith)
 rises (p ∷ ps) s i zero order low = absurd (omega arith)

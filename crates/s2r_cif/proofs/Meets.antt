@@ -19,7 +19,7 @@ use Rattle.s2r_cif.proofs.Scales.{scale_keeps}
 pub meet_other : (a b : Rect) → Meet a b → Meet b a
 meet_other a b h = record { left = h.right; right = h.left; low = h.high; high = h.low }
 
-meet_cases : (a b : Rect) → Meet a b ⊎ (Meet a b → ⊥)
+pub meet_cases : (a b : Rect) → Meet a b ⊎ (Meet a b → ⊥)
 meet_cases a b =
     by_lt_z b.x2 a.x1 (λ lt. inr (λ m. let l = m.left in omega (arith, ints, lt, l))) (λ left.
     by_lt_z a.x2 b.x1 (λ lt. inr (λ m. let l = m.right in omega (arith, ints, lt, l))) (λ right.

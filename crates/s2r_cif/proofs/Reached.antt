@@ -21,7 +21,7 @@ use Rattle.cell_model.proofs.Members.{In-split, In-map_back, All-In, All-from}
 use Rattle.cougar_extract.specs.Stages.{IsCellEdge, HasCellEdges}
 use Rattle.cougar_extract.proofs.Reaches.{drawn_reach}
 
-edges_reach : (r : Rect) → HasCellEdges r → HasReach r
+pub edges_reach : (r : Rect) → HasCellEdges r → HasReach r
 edges_reach r h = record { x1 = wider r.x1 h.x1; y1 = wider r.y1 h.y1; x2 = wider r.x2 h.x2; y2 = wider r.y2 h.y2 } where
   wider : (c : ℤ) → IsCellEdge c → IsReach c
   wider c k = let p = k.low in let q = k.high in record { low = omega (arith, ints, p, q); high = omega (arith, ints, p, q) }
@@ -37,7 +37,7 @@ turned_edge c b d i h k n m =
     let p = h.low in let q = h.high in let u = k.low in let v = k.high in let r = n.low in let s = n.high in let x = m.low in let y = m.high in
     record { low = omega (arith, ints, p, q, u, v, r, s, x, y); high = omega (arith, ints, p, q, u, v, r, s, x, y) }
 
-placed_reach : (t : Transform) (r b : Rect) (x y : ℤ) → HasCellEdges r → HasCoordinates b → IsCoordinate x → IsCoordinate y
+pub placed_reach : (t : Transform) (r b : Rect) (x y : ℤ) → HasCellEdges r → HasCoordinates b → IsCoordinate x → IsCoordinate y
     → HasReach (moved (turned t (moved r (neg_ℤ b.x1) (neg_ℤ b.y1)) (b.x2 -ℤ b.x1) (b.y2 -ℤ b.y1)) x y)
 placed_reach NoSym r b x y h k m n = record {
   x1 = plain_edge r.x1 b.x1 x h.x1 k.x1 m;
@@ -67,7 +67,7 @@ placed_reach SymXY r b x y h k m n = record {
 -- ---- shapes
 
 -- a cell that is found is one of the library's
-named_formed : (cells : List Cell) (model : List ℕ) (c : Cell) → ((d : Cell) → In d cells → IsFormed d) → cell_named cells model ≡ Some c → IsFormed c
+pub named_formed : (cells : List Cell) (model : List ℕ) (c : Cell) → ((d : Cell) → In d cells → IsFormed d) → cell_named cells model ≡ Some c → IsFormed c
 named_formed [] model c each e = absurd (cc e)
 named_formed (d ∷ rest) model c each e = by (is_same_text d.name model) (named_formed rest model c (λ x i. each x (there i))) e where
   by : (b : Bool) → (cell_named rest model ≡ Some c → IsFormed c) → (if b then Some d else cell_named rest model) ≡ Some c → IsFormed c

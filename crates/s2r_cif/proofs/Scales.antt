@@ -22,7 +22,7 @@ scale_keeps (suc s) a b h =
     let before = scale_keeps s a b h in
     omega (arith, ints, p, q, before, h)
 
-scale_moved : (s : ℕ) (a : ℤ) (d : ℕ) → pos s *ℤ (a +ℤ pos d) ≡ (pos s *ℤ a) +ℤ pos (s * d)
+pub scale_moved : (s : ℕ) (a : ℤ) (d : ℕ) → pos s *ℤ (a +ℤ pos d) ≡ (pos s *ℤ a) +ℤ pos (s * d)
 scale_moved zero a d = let p = zero-*ℤ (a +ℤ pos d) in let q = zero-*ℤ a in omega (arith, ints, p, q)
 scale_moved (suc s) a d =
     let p = scale_more s (a +ℤ pos d) in

@@ -16,5 +16,7 @@ mod table;
 pub use cif::write_cif;
 pub use error::RealError;
 pub use layout::{RealBox, RealLayout};
-pub use making::to_real;
+pub use making::{lower_metal, to_real};
+pub use mapping::{cell_of, check_mappable};
+pub use scaling::scaled;
 pub use table::{MOST_GROW, MOST_SCALE, RealTable};

@@ -88,7 +88,7 @@ fn boxes(alloc: Global, table: &RealTable, shapes: &[Shape]) -> Result<Vec<RealB
 }
 
 /// The lower of the metals that a contact joins, if it joins two.
-fn lower_metal(contact: &Contact) -> Option<u8>
+pub fn lower_metal(contact: &Contact) -> Option<u8>
     ensures { result ≡ lower_metal_of contact.now }
 {
     match contact {

@@ -14,7 +14,7 @@ use sym_geom::Item;
 use vlsi_base::Text;
 
 /// The first cell of this name. Takes time for each cell.
-fn cell_of<'c>(cells: &'c [Cell], model: &Text) -> Option<&'c Cell>
+pub fn cell_of<'c>(cells: &'c [Cell], model: &Text) -> Option<&'c Cell>
     ensures { option_copied result ≡ cell_named cells.now model.now }
 {
     for cell in cells {

@@ -7,7 +7,7 @@ use crate::table::{MOST_GROW, MOST_SCALE};
 use sym_geom::Rect;
 
 /// A coordinate times the scale.
-fn scaled(scale: u32, c: &i64) -> i64
+pub fn scaled(scale: u32, c: &i64) -> i64
     requires scale { scale ≤ MOST_SCALE }
     requires reach { IsReach c.now }
     ensures value { result ≡ (pos scale *ℤ c.now) }

@@ -1,3 +1,2 @@
-pub mod Cutting
 pub mod Refusing
 pub mod Numbers

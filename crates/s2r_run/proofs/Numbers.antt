@@ -1,11 +1,11 @@
 -- The numbers of a line, one more.
-use Rattle.std.proofs.Common.{◌≡◌, ℕ, ◌+◌, ◌<◌, List, length, get_or, inl, inr, sym, ap, subst, arith}
+use Rattle.std.proofs.Common.{◌≡◌, ℕ, ◌+◌, ◌<◌, List, length, get_or, inl, inr, sym, subst, arith}
 use Rattle.std.proofs.Math.ListN.{set}
 use Rattle.std.proofs.lemmas.Bool.{cases_eq}
 use Rattle.std.proofs.lemmas.List.{get_or-set_other}
 use Rattle.std.proofs.lemmas.Grind.{get_or-set_at}
 use Rattle.s2r_cif.specs.declared.table.TheConstants.{MOST_GROW}
-use Rattle.s2r_run.specs.TableText.{IsNumberIn, fields_of, at}
+use Rattle.real_table.specs.Fields.{IsNumberIn, fields_of, at}
 
 pub numbers_next : (line grow field : List ℕ) (place n : ℕ) → place < length grow
     → ((k : ℕ) → k < place → IsNumberIn 0 MOST_GROW (at (fields_of line) (k + 1)) (get_or grow k 0))

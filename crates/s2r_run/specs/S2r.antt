@@ -1,5 +1,5 @@
 -- What `s2r` reads and answers.
-use Rattle.std.specs.Prelude.{◌≡◌, ℕ, List, [], ◌∷◌, ◌++◌, length, get_or, codes, false, None, Some, Result, Ok, Err}
+use Rattle.std.specs.Prelude.{◌≡◌, ◌⊎◌, ℕ, List, [], ◌∷◌, ◌++◌, length, get_or, codes, true, false, None, Some, Result, Ok, Err}
 use Rattle.std.specs.Fmt.{decimal}
 use Rattle.vlsi_base.specs.declared.fault.FaultKind.TheVariants as kind
 use Rattle.vlsi_base.specs.Names.{scalar}
@@ -17,7 +17,11 @@ use Rattle.s2r_cif.specs.declared.error.RealError.{RealError}
 use Rattle.s2r_cif.specs.declared.error.RealError.TheVariants as error
 use Rattle.s2r_cif.specs.Real.{IsRealOf}
 use Rattle.s2r_cif.specs.Refused.{CanBeReal, IsRealRefusal}
-use Rattle.s2r_cif.specs.Cif.{number_text, cif_text}
+use Rattle.s2r_cif.specs.Cif.{cif_text}
+use Rattle.real_table.specs.declared.table.ProcessTable.{ProcessTable}
+use Rattle.real_table.specs.Process.{is_process, IsProcessText, IsProcessRefusal}
+use Rattle.real_boxes.specs.declared.error.ProcessError.{ProcessError}
+use Rattle.real_boxes.specs.Refused.{CanBeMade, layout_boxes, IsProcessRefusal as HasNoBoxes}
 use Rattle.s2r_run.specs.declared.words.S2rCommand.{S2rCommand}
 use Rattle.tool_drive.specs.declared.status.Status.{Status}
 use Rattle.tool_drive.specs.declared.status.Status.TheVariants as status
@@ -27,7 +31,9 @@ use Rattle.tool_drive.specs.declared.tool.Refusal.{Refusal}
 use Rattle.tool_drive.specs.Lines.{count_line}
 use Rattle.tool_drive.specs.Plan.{Plan, Inputs, limited, large}
 use Rattle.tool_drive.specs.Refusals.{OfFile, whole_fault}
+use Rattle.s2r_run.specs.RectText.{rect_text}
 use Rattle.s2r_run.specs.TableText.{IsTableText, IsTableRefusal}
+use Rattle.s2r_run.specs.Process.{IsProcessTold, IsProcessProduct}
 
 -- SOURCE, TABLE, CATAL, and then the files of the cells that CATAL uses
 abbrev pub s2r_plan : S2rCommand → Plan
@@ -40,15 +46,19 @@ pub record Texts : Type 0 where
   pub catal : List ℕ
   pub cells : List (List ℕ)
 
--- library, layout and table are read
+-- library, layout and table are read, where the table is a plain one
 pub record AreRead (x : Texts) (l : Library) (f : Figure) (t : RealTable) : Type 0 where
   pub library : IsLibraryOf false x.catal x.cells l
   pub figure : IsApText x.source f
+  pub plain : is_process x.table ≡ false
   pub table : IsTableText x.table t
 
--- left, low, right and high edge, each behind a blank
-abbrev pub rect_text : Rect → List ℕ
-rect_text r = number_text r.x1 ++ (number_text r.y1 ++ (number_text r.x2 ++ number_text r.y2))
+-- and where it is one of a process
+pub record AreReadOf (x : Texts) (l : Library) (f : Figure) (t : ProcessTable) : Type 0 where
+  pub library : IsLibraryOf false x.catal x.cells l
+  pub figure : IsApText x.source f
+  pub process : is_process x.table ≡ true
+  pub table : IsProcessText x.table t
 
 -- the metal and the two rectangles of shapes that grow too near each other
 abbrev pub near_text : ℕ → Rect → Rect → List ℕ
@@ -67,6 +77,15 @@ pub record IsMadeReal (c : S2rCommand) (x : Texts) (p : Product) : Type 0 where
   pub file : p.file ≡ Some (cif_text r)
   pub text : p.text ≡ count_line (codes "boxes") (length r.boxes)
 
+-- The layout has boxes by a table of a process, whose CIF file is NAME.cif; their number is printed.
+pub record IsMadeOf (c : S2rCommand) (x : Texts) (p : Product) : Type 0 where
+  pub l : Library
+  pub f : Figure
+  pub t : ProcessTable
+  pub read : AreReadOf x l f t
+  pub able : CanBeMade t f.items l
+  pub product : IsProcessProduct c t f (layout_boxes t f.items l) p
+
 -- how a refusal of the real layout is told
 abbrev pub IsToldOf : S2rCommand → RealError → Status → Type 0
 IsToldOf c error.Memory s = ⊥
@@ -79,12 +98,16 @@ IsToldOf c (error.Near metal a b) s = s ≡ status.No (Near (near_text metal a b
 pub data IsS2rRefusal (c : S2rCommand) (x : Texts) (s : Status) : Type 0 where
   no_library : (e : LibError) → IsRefusedLibrary false x.catal x.cells e → s ≡ status_of e → IsS2rRefusal c x s
   bad_layout : (l : Library) → IsLibraryOf false x.catal x.cells l → OfFile c.source (IsApRefusal x.source) s → IsS2rRefusal c x s
-  bad_table : (l : Library) (f : Figure) → IsLibraryOf false x.catal x.cells l → IsApText x.source f → OfFile c.table (IsTableRefusal x.table) s → IsS2rRefusal c x s
+  bad_table : (l : Library) (f : Figure) → IsLibraryOf false x.catal x.cells l → IsApText x.source f → is_process x.table ≡ false
+      → OfFile c.table (IsTableRefusal x.table) s → IsS2rRefusal c x s
+  bad_process : (l : Library) (f : Figure) → IsLibraryOf false x.catal x.cells l → IsApText x.source f → is_process x.table ≡ true
+      → OfFile c.table (IsProcessRefusal x.table) s → IsS2rRefusal c x s
   unreal : (l : Library) (f : Figure) (t : RealTable) (e : RealError) → AreRead x l f t → IsRealRefusal t f.items l e → IsToldOf c e s → IsS2rRefusal c x s
+  no_boxes : (l : Library) (f : Figure) (t : ProcessTable) (e : ProcessError) → AreReadOf x l f t → HasNoBoxes t f.items l e → IsProcessTold c e s → IsS2rRefusal c x s
 
 -- the file is written, or one of these refusals
 abbrev pub Makes : S2rCommand → Texts → Result Product Refusal → Type 0
-Makes c x (Ok p) = IsMadeReal c x p
+Makes c x (Ok p) = IsMadeReal c x p ⊎ IsMadeOf c x p
 Makes c x (Err r) = (r.part ≡ None) × IsS2rRefusal c x r.status
 
 abbrev pub texts : List ℕ → List ℕ → List ℕ → List (List ℕ) → Texts

@@ -1,35 +1,13 @@
 -- The text of a table: the line `scale K` and the line `grow D1 D2 D3 D4 D5 D6`, and nothing else.
-use Rattle.std.specs.Prelude.{◌≡◌, ◌==◌, ℕ, ◌+◌, ◌<◌, ◌≤◌, Bool, not, List, [], ◌∷◌, length, slice_index, slice_index_or, codes, if◌then◌else◌}
-use Rattle.vlsi_base.specs.Lines.{lines_of, put_before}
-use Rattle.vlsi_base.specs.Number.{IsNumeral, value_of}
+use Rattle.std.specs.Prelude.{◌≡◌, ℕ, ◌+◌, ◌<◌, List, [], ◌∷◌, length, slice_index, codes}
+use Rattle.vlsi_base.specs.Lines.{lines_of}
 use Rattle.vlsi_base.specs.declared.fault.FaultKind.{FaultKind}
 use Rattle.vlsi_base.specs.declared.fault.FaultKind.TheVariants as kind
 use Rattle.vlsi_base.specs.declared.fault.ReadError.{ReadError}
 use Rattle.vlsi_base.specs.declared.fault.ReadError.TheVariants as errors
+use Rattle.real_table.specs.Fields.{fields_of, at, IsNumberIn}
 use Rattle.s2r_cif.specs.declared.table.TheConstants.{MOST_SCALE, MOST_GROW}
 use Rattle.s2r_cif.specs.declared.table.RealTable.{RealTable}
-
--- ---- fields
-
--- anything but a blank
-abbrev pub is_in_field : ℕ → Bool
-is_in_field b = not (b == 32)
-
--- what stands between the blanks of a line; there is one more than blanks
-unfoldable pub fields_of : List ℕ → List (List ℕ)
-fields_of [] = [] ∷ []
-fields_of (b ∷ bs) = if b == 32 then [] ∷ fields_of bs else put_before b (fields_of bs)
-
--- the field of this number, counted from 0; no bytes where there is none
-abbrev pub at : List (List ℕ) → ℕ → List ℕ
-at fields i = slice_index_or fields i []
-
--- 1 to 20 decimal digits, whose number lies within these bounds
-pub record IsNumberIn (low high : ℕ) (text : List ℕ) (n : ℕ) : Type 0 where
-  pub numeral : IsNumeral text
-  pub value : n ≡ value_of text
-  pub least : low ≤ n
-  pub most : n ≤ high
 
 -- ---- lines
 

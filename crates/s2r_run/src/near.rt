@@ -1,7 +1,8 @@
 // How two shapes are told that grow too near each other.
 ghost use Rattle.std.specs.Prelude.{◌≡◌, ◌++◌, IfOk, OnOk};
 ghost use Rattle.s2r_cif.specs.Cif.{number_text};
-ghost use Rattle.s2r_run.specs.S2r.{near_text as text_of_near, rect_text};
+ghost use Rattle.s2r_run.specs.RectText.{rect_text};
+ghost use Rattle.s2r_run.specs.S2r.{near_text as text_of_near};
 
 use std::alloc::{AllocError, Global};
 use sym_geom::Rect;
@@ -18,7 +19,7 @@ fn edge(alloc: Global, out: &mut FileBytes, n: &i64) -> Result<(), AllocError>
 }
 
 /// The edges of a rectangle, each behind a blank.
-fn rectangle(alloc: Global, out: &mut FileBytes, rect: &Rect) -> Result<(), AllocError>
+pub(crate) fn rectangle(alloc: Global, out: &mut FileBytes, rect: &Rect) -> Result<(), AllocError>
     ensures { OnOk result (out.new ≡ out.old ++ rect_text rect.now) }
 {
     edge(alloc, out, &rect.x1)?;

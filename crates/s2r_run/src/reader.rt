@@ -3,7 +3,7 @@ ghost use Rattle.std.specs.Prelude.{◌≡◌, ◌+◌, ◌<◌, ◌^◌, IfErr,
 ghost use Rattle.s2r_cif.specs.Real.{IsRealTable};
 ghost use Rattle.s2r_run.specs.TableText.{IsGrowLine, IsNoGrow, IsNoScale, IsScaleLine, IsTableRefusal, IsTableText, fault_on};
 
-use crate::fields::{field, field_count, number_in};
+use real_table::{field, field_count, number_in};
 use s2r_cif::{MOST_GROW, MOST_SCALE, RealTable};
 use std::alloc::Global;
 use vlsi_base::{FaultKind, InputFault, Lines, Names, ReadError};

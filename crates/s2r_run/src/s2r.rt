@@ -1,5 +1,8 @@
 // `s2r` as a tool: what it reads, and what it answers.
-ghost use Rattle.std.specs.Prelude.{ℕ, List, IfOk, false};
+ghost use Rattle.std.specs.Prelude.{◌≡◌, ℕ, List, IfOk, false};
+ghost use Rattle.ap_io.specs.ApText.{IsApText};
+ghost use Rattle.cougar_extract.specs.Extracted.{IsReadyFigure};
+ghost use Rattle.real_table.specs.Process.{is_process as is_process_text};
 ghost use Rattle.cell_lib.specs.Library.{IsLibraryOf};
 ghost use Rattle.tool_drive.specs.Refusals.{MemoryOr};
 ghost use Rattle.tool_drive.specs.Table.{IsJudged};
@@ -7,11 +10,13 @@ ghost use Rattle.s2r_cif.specs.Real.{IsRealLayout};
 ghost use Rattle.s2r_run.specs.S2r.{IsProductOf, IsToldOf, Makes, texts};
 
 use crate::near::near_text;
+use crate::process::made_process;
 use crate::reader::read_table;
 use crate::words::S2rCommand;
-use ap_io::{read_ap, what_is_read_is_a_figure};
+use ap_io::{Figure, read_ap, what_is_read_is_a_figure};
 use cell_checks::Library;
 use cell_lib::LibraryTool;
+use real_table::is_process;
 use s2r_cif::{RealError, RealLayout, to_real, write_cif};
 use std::alloc::{AllocError, Global};
 use tool_drive::{
@@ -56,6 +61,31 @@ fn product(alloc: Global, command: &S2rCommand, layout: &RealLayout) -> Result<P
     })
 }
 
+// What the layout comes to by a plain table.
+fn made_plain(
+    alloc: Global,
+    command: &S2rCommand,
+    library: &Library,
+    figure: &Figure,
+    table: &[u8],
+) -> Result<Product, Refusal>
+    requires figure { IsReadyFigure figure.now }
+    requires plain { is_process_text table.now ≡ false }
+    ensures { (catal source : List ℕ) (cells : List (List ℕ)) → IsLibraryOf false catal cells library.now → IsApText source figure.now
+        → IsJudged (Makes command.now (texts source table.now catal cells)) result }
+{
+    let table = match read_table(alloc, table) {
+        Ok(table) => table,
+        Err(error) => return Err(Refusal::plain(refused(alloc, &command.table, error))),
+    };
+    let layout = match to_real(alloc, figure, library, &table) {
+        Ok(layout) => layout,
+        Err(error) => return Err(Refusal::plain(real_status(alloc, command, error))),
+    };
+    let product = product(alloc, command, &layout)?;
+    Ok(product)
+}
+
 // What the layout comes to, by the table.
 fn made(
     alloc: Global,
@@ -73,27 +103,24 @@ fn made(
         Ok(figure) => figure,
         Err(error) => return Err(Refusal::plain(refused(alloc, &command.source, error))),
     };
-    let table = match read_table(alloc, table) {
-        Ok(table) => table,
-        Err(error) => return Err(Refusal::plain(refused(alloc, &command.table, error))),
-    };
-    let layout = match to_real(alloc, &figure, library, &table) {
-        Ok(layout) => layout,
-        Err(error) => return Err(Refusal::plain(real_status(alloc, command, error))),
-    };
-    let product = product(alloc, command, &layout)?;
-    Ok(product)
+    if is_process(table) {
+        made_process(alloc, command, library, &figure, table)
+    } else {
+        made_plain(alloc, command, library, &figure, table)
+    }
 }
 
 /// `s2r`, with what it is asked: it makes the real layout of the one in SOURCE by the table in TABLE, writes it to NAME.cif, and prints
-/// `boxes` and how many boxes of metal it has.
+/// `boxes` and how many boxes of metal it has; by a table of a process it writes the boxes of all layers, and prints how many they are.
 ///
 /// All files are read first: SOURCE, TABLE, CATAL, and the behaviour and the layout of each cell that this uses. Then it is refused, in
 /// this order: by `Library`, or a limit of CATAL or of a cell, at the first line or cell at fault; by `Source`, or a limit, of SOURCE;
 /// by `Source` of TABLE; by `Source` of `UnknownCell`, at the first instance of a cell that the library hasn't; by `Source` of
-/// `Unsupported`, at the first instance of a cell that isn't mappable; by `Limit` of `Size`, where there are 2^32 or more shapes; by
-/// `Near`, at the first two shapes of one metal that don't touch, but whose boxes would. Memory goes by the files, the shapes of the
-/// layout and its pairs of near shapes.
+/// `Unsupported`, at the first instance of a cell that isn't mappable; by `Limit` of `Size`, where there are 2^32 or more shapes. By a
+/// plain table the last is `Near`, at the first two shapes of one metal that don't touch, but whose boxes would. By a table of a process
+/// there come `Source` of `Unsupported`, at the first layer or contact whose metal would be lost; `Limit` of `Size`, where there are
+/// 2^32 or more boxes; `Broken`, at the first box that is off the grid or has no area; and `Near`, at the first two boxes that are nearer
+/// than the table says. Memory goes by the files, the shapes of the layout, its boxes and those of its pairs that are too near.
 impl LibraryTool for S2rCommand {
     ghost use Rattle.std.specs.Prelude.{refl, [], ◌∷◌};
     ghost use Rattle.tool_drive.specs.Plan.{limited, large};

@@ -1,6 +1,6 @@
 use Rattle.std.proofs.Common.{◌≡◌, ℕ, ◌+◌, ◌<◌, length, get_or}
 use Rattle.s2r_cif.specs.declared.table.TheConstants.{MOST_GROW}
-use Rattle.s2r_run.specs.TableText.{IsNumberIn, fields_of, at}
+use Rattle.real_table.specs.Fields.{IsNumberIn, fields_of, at}
 use Rattle.s2r_run.proofs.reader.read_grow.Given as goal
 
 abbrev pub invariant-loop-place : goal.invariant-loop-place

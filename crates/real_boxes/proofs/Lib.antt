@@ -1,0 +1,5 @@
+pub mod Reaches
+pub mod Layers
+pub mod Firsts
+pub mod Closest
+pub mod Stages
