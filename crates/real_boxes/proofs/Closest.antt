@@ -158,6 +158,8 @@ close_of all boxes before behind one (errors.NotMappable model) is apart h = abs
 close_of all boxes before behind one (errors.Limit limit) is apart h = absurd h
 close_of all boxes before behind one (errors.Lost word) is apart h = absurd h
 close_of all boxes before behind one (errors.OffGrid real rect) is apart h = absurd h
+close_of all boxes before behind one (errors.Joined metal a b) is apart h = absurd h
+close_of all boxes before behind one (errors.Parted metal a b) is apart h = absurd h
 
 pub close_at : (all : List Entry) (boxes : List RealBox) (k : ℕ) (one : Entry) (e : ProcessError) → k < length all → one ≡ get_or all k one
     → All (KeepsApart all boxes) (take k all) → IsEntryRefusal all boxes one e → IsNearRefusal all boxes e
