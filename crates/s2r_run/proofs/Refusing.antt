@@ -1,5 +1,5 @@
 -- From the refusals of readers and of the real layout to the tool's, and from the real layout to its answer.
-use Rattle.std.proofs.Common.{◌≡◌, ℕ, List, None, Ok, Err, inl, inr, refl, sym, subst}
+use Rattle.std.proofs.Common.{◌≡◌, List, None, Ok, Err, inl, inr, refl, sym, subst}
 use Rattle.ap_io.specs.declared.figure.Figure.{Figure}
 use Rattle.cell_model.specs.Library.{Library}
 use Rattle.s2r_cif.specs.declared.table.RealTable.{RealTable}

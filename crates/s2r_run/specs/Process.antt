@@ -1,5 +1,5 @@
 -- What `s2r` answers by a table of a process.
-use Rattle.std.specs.Prelude.{◌≡◌, ℕ, List, [], ◌∷◌, ◌++◌, length, codes, None, Some}
+use Rattle.std.specs.Prelude.{◌≡◌, ℕ, List, [], ◌∷◌, ◌++◌, length, codes, Some}
 use Rattle.vlsi_base.specs.declared.fault.FaultKind.TheVariants as kind
 use Rattle.vlsi_base.specs.Names.{scalar}
 use Rattle.sym_geom.specs.declared.rect.Rect.{Rect}

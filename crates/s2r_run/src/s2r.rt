@@ -111,14 +111,16 @@ fn made(
 }
 
 /// `s2r`, with what it is asked: it makes the real layout of the one in SOURCE by the table in TABLE, writes it to NAME.cif, and prints
-/// `boxes` and how many boxes of metal it has.
+/// `boxes` and how many boxes of metal it has; by a table of a process it writes the boxes of all layers, and prints how many they are.
 ///
 /// All files are read first: SOURCE, TABLE, CATAL, and the behaviour and the layout of each cell that this uses. Then it is refused, in
 /// this order: by `Library`, or a limit of CATAL or of a cell, at the first line or cell at fault; by `Source`, or a limit, of SOURCE;
 /// by `Source` of TABLE; by `Source` of `UnknownCell`, at the first instance of a cell that the library hasn't; by `Source` of
-/// `Unsupported`, at the first instance of a cell that isn't mappable; by `Limit` of `Size`, where there are 2^32 or more shapes; by
-/// `Near`, at the first two shapes of one metal that don't touch, but whose boxes would. Memory goes by the files, the shapes of the
-/// layout and its pairs of near shapes.
+/// `Unsupported`, at the first instance of a cell that isn't mappable; by `Limit` of `Size`, where there are 2^32 or more shapes. By a
+/// plain table the last is `Near`, at the first two shapes of one metal that don't touch, but whose boxes would. By a table of a process
+/// there come `Source` of `Unsupported`, at the first layer or contact whose metal would be lost; `Limit` of `Size`, where there are
+/// 2^32 or more boxes; `Broken`, at the first box that is off the grid or has no area; and `Near`, at the first two boxes that are nearer
+/// than the table says. Memory goes by the files, the shapes of the layout, its boxes and those of its pairs that are too near.
 impl LibraryTool for S2rCommand {
     ghost use Rattle.std.specs.Prelude.{refl, [], ◌∷◌};
     ghost use Rattle.tool_drive.specs.Plan.{limited, large};

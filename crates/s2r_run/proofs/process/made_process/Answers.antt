@@ -1,4 +1,4 @@
-use Rattle.std.proofs.Common.{Err, sym, subst, refl}
+use Rattle.std.proofs.Common.{◌∙◌, Err, sym, subst, refl}
 use Rattle.tool_drive.specs.declared.tool.Refusal.{Refusal}
 use Rattle.tool_drive.specs.Refusals.{refused_file}
 use Rattle.tool_drive.specs.Table.{IsJudged}
@@ -24,4 +24,5 @@ pub returns : goal.returns
 returns c = λ catal source cells library figure.
     made_process c.args.command.now (texts source c.args.table.now catal cells) c.args.library.now c.args.figure.now c.in-Ok.table
     (record { library = library; figure = figure; process = c.requires.process; table = c.in-Ok.ensures.read })
-    c.as_slice.result.now c.in_ok-product.product c.as_slice.ensures c.in-Ok-to_process.ensures.able c.in_ok-product.ensures
+    c.as_slice.result.now c.in_ok-product.product (c.as_slice.ensures ∙ c.in-Ok-to_process.ensures.boxes)
+    c.in-Ok-to_process.ensures.able c.in_ok-product.ensures

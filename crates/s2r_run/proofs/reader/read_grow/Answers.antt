@@ -1,4 +1,4 @@
-use Rattle.std.proofs.Common.{length, ◌≡◌, ◌∙◌, arith}
+use Rattle.std.proofs.Common.{◌∙◌, arith}
 use Rattle.std.proofs.Math.ListN.{length-set}
 use Rattle.s2r_run.proofs.Numbers.{numbers_next}
 use Rattle.s2r_run.proofs.reader.read_grow.Goals as goal

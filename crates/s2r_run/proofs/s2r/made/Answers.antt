@@ -1,4 +1,4 @@
-use Rattle.std.proofs.Common.{Err, sym, subst, refl}
+use Rattle.std.proofs.Common.{refl}
 use Rattle.ap_io.specs.Refusal.{IsApRefusal}
 use Rattle.cougar_extract.proofs.Ready.{ready_figure}
 use Rattle.tool_drive.specs.Refusals.{refused_file}
@@ -19,5 +19,5 @@ returns-in-Err c = λ catal cells library.
 pub returns-then-is_process : goal.returns-then-is_process
 returns-then-is_process c = λ catal cells library. c.made_process.ensures catal c.args.source.now cells library c.in-Ok.ensures.accepted
 
-pub returns-else-is_process : goal.returns-else-is_process
-returns-else-is_process c = λ catal cells library. c.made_plain.ensures catal c.args.source.now cells library c.in-Ok.ensures.accepted
+pub returns : goal.returns
+returns c = λ catal cells library. c.made_plain.ensures catal c.args.source.now cells library c.in-Ok.ensures.accepted
