@@ -9,7 +9,7 @@ ghost use Rattle.tool_drive.specs.Table.{IsJudged};
 ghost use Rattle.s2r_cif.specs.Real.{IsRealLayout};
 ghost use Rattle.s2r_run.specs.S2r.{IsProductOf, IsToldOf, Makes, texts};
 
-use crate::near::near_text;
+use crate::near::metal_text;
 use crate::process::made_process;
 use crate::reader::read_table;
 use crate::words::S2rCommand;
@@ -39,7 +39,7 @@ fn real_status(alloc: Global, command: &S2rCommand, error: RealError) -> Status
             Name::scalar(model),
         ),
         RealError::Limit(limit) => Status::Limit(limit),
-        RealError::Near { metal, a, b } => match near_text(alloc, metal, &a, &b) {
+        RealError::Near { metal, a, b } => match metal_text(alloc, metal, &a, &b) {
             Ok(text) => Status::No(Verdict::Near(text)),
             Err(_) => Status::Memory,
         },
