@@ -118,9 +118,10 @@ fn made(
 /// by `Source` of TABLE; by `Source` of `UnknownCell`, at the first instance of a cell that the library hasn't; by `Source` of
 /// `Unsupported`, at the first instance of a cell that isn't mappable; by `Limit` of `Size`, where there are 2^32 or more shapes. By a
 /// plain table the last is `Near`, at the first two shapes of one metal that don't touch, but whose boxes would. By a table of a process
-/// there come `Source` of `Unsupported`, at the first layer or contact whose metal would be lost; `Limit` of `Size`, where there are
-/// 2^32 or more boxes; `Broken`, at the first box that is off the grid or has no area; and `Near`, at the first two boxes that are nearer
-/// than the table says. Memory goes by the files, the shapes of the layout, its boxes and those of its pairs that are too near.
+/// there come `Source` of `Unsupported`, at the first layer or contact whose metal would be lost; `Near`, at the first two shapes of one
+/// metal that don't touch, but whose boxes would; `Broken`, at the first two that touch, and whose boxes wouldn't; `Limit` of `Size`,
+/// where there are 2^32 or more boxes; `Broken`, at the first box that is off the grid or has no area; and `Near`, at the first two boxes
+/// that are nearer than the table says. Memory goes by the files, the shapes of the layout, its boxes and those of its pairs that are too near.
 impl LibraryTool for S2rCommand {
     ghost use Rattle.std.specs.Prelude.{refl, [], ◌∷◌};
     ghost use Rattle.tool_drive.specs.Plan.{limited, large};
