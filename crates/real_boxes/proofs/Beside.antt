@@ -1,10 +1,11 @@
 -- Boxes of metals lie beside what they write.
-use Rattle.std.proofs.Common.{◌≡◌, inl, inr, ℕ, suc, zero, ◌+◌, ◌*◌, ◌/◌, ◌<◌, ◌≤◌, Bool, true, false, not, List, [], ◌∷◌, ◌++◌, length, get_or, Option, None, Some, All, cond, refl, sym, subst, ap, ◌∙◌, arith, if◌then◌else◌}
-use Rattle.std.specs.Prelude.{ℤ, pos, ◌+ℤ◌, ◌-ℤ◌, ◌*ℤ◌, ◌≤ℤ◌, ◌&&◌, bytes_eq, is_some}
+use Rattle.std.proofs.Common.{◌≡◌, inl, inr, ℕ, suc, zero, ◌+◌, ◌*◌, ◌/◌, ◌<◌, ◌≤◌, Bool, true, false, not, List, [], ◌∷◌, ◌++◌, length, take, get_or, neg_ℤ, Option, None, Some, All, cond, refl, sym, subst, ap, ◌∙◌, arith, if◌then◌else◌}
+use Rattle.std.specs.Prelude.{ℤ, pos, ◌+ℤ◌, ◌-ℤ◌, ◌*ℤ◌, ◌≤ℤ◌, ◌<ℤ◌, bytes_eq, is_some}
 use Rattle.std.proofs.lemmas.Bool.{false≢true, and_parts}
 use Rattle.std.proofs.lemmas.Int.{ints}
+use Rattle.std.proofs.lemmas.List.Elements.{All-more}
 use Rattle.vlsi_base.specs.Member.{In, here, there}
-use Rattle.cell_model.proofs.Members.{In-split, All-In}
+use Rattle.cell_model.proofs.Members.{In-split, All-In, All-from}
 use Rattle.sym_geom.specs.Rect.{Meet, Near}
 use Rattle.sym_geom.specs.declared.rect.Rect.{Rect}
 use Rattle.sym_shapes.specs.Shape.{Shape}
@@ -18,10 +19,83 @@ use Rattle.real_table.specs.declared.table.ProcessTable.{ProcessTable}
 use Rattle.real_boxes.specs.declared.mark.Mark.{Mark}
 use Rattle.real_boxes.specs.declared.boxes.RealBox.{RealBox}
 use Rattle.real_boxes.specs.Boxes.{layer_of, box_rect, rule_boxes, boxes_by}
-use Rattle.real_boxes.specs.Metals.{is_layer_of, metal_box, is_written, mark_boxes, is_kept, on_metal, shown_by, shown_rect, mark_shapes, metal_shapes, rect_of, written_rect, written_shapes, metal_boxes, IsMovedWithin, IsGrownWithin, IsEntryGrownWithin, AreWithinGap}
+use Rattle.real_boxes.specs.Metals.{is_layer_of, metal_box, is_written, mark_boxes, is_kept, on_metal, lengthened, padded, shown_by, shown_rect, mark_shapes, metal_shapes, rect_of, written_rect, written_shapes, metal_boxes, IsMovedWithin, IsGrownWithin, IsEntryGrownWithin, IsMostAside, AreWithinGap}
 use Rattle.real_boxes.specs.Refused.{first_lost}
 use Rattle.real_boxes.proofs.Firsts.{found_in}
 use Rattle.real_boxes.proofs.Layers.{only}
+
+-- ---- rectangles from their edges
+
+pub lengthened_up : (u : Bool) (r : Rect) (a b c d : ℤ) → u ≡ true → a ≡ r.x1 → b ≡ r.y1 -ℤ pos 100 → c ≡ r.x2 → d ≡ r.y2 +ℤ pos 100
+    → ◌≡◌ {A = Rect} (record { x1 = a; y1 = b; x2 = c; y2 = d }) (lengthened u r)
+lengthened_up u r a b c d is p q v w =
+    subst (λ (t : Bool). ◌≡◌ {A = Rect} (record { x1 = a; y1 = b; x2 = c; y2 = d }) (lengthened t r)) (sym is) (λ i. record { x1 = p i; y1 = q i; x2 = v i; y2 = w i })
+
+pub lengthened_level : (u : Bool) (r : Rect) (a b c d : ℤ) → u ≡ false → a ≡ r.x1 -ℤ pos 100 → b ≡ r.y1 → c ≡ r.x2 +ℤ pos 100 → d ≡ r.y2
+    → ◌≡◌ {A = Rect} (record { x1 = a; y1 = b; x2 = c; y2 = d }) (lengthened u r)
+lengthened_level u r a b c d is p q v w =
+    subst (λ (t : Bool). ◌≡◌ {A = Rect} (record { x1 = a; y1 = b; x2 = c; y2 = d }) (lengthened t r)) (sym is) (λ i. record { x1 = p i; y1 = q i; x2 = v i; y2 = w i })
+
+pub padded_is : (r : Rect) (a b c d : ℤ) → a ≡ r.x1 -ℤ pos 100 → b ≡ r.y1 -ℤ pos 100 → c ≡ r.x2 +ℤ pos 100 → d ≡ r.y2 +ℤ pos 100
+    → ◌≡◌ {A = Rect} (record { x1 = a; y1 = b; x2 = c; y2 = d }) (padded r)
+padded_is r a b c d p q v w = λ i. record { x1 = p i; y1 = q i; x2 = v i; y2 = w i }
+
+-- ---- how far a line of the table moves edges
+
+moved_within : (a b n : ℕ) (out by : ℤ) → neg_ℤ (pos a) ≤ℤ out → out ≤ℤ pos a → neg_ℤ (pos b) ≤ℤ by → by ≤ℤ pos b → a + b ≤ n → IsMovedWithin n out by
+moved_within a b n out by p q u v most = record {
+  in_low = omega (arith, ints, p, q, u, v, most);
+  in_high = omega (arith, ints, p, q, u, v, most);
+  out_low = omega (arith, ints, p, q, u, v, most);
+  out_high = omega (arith, ints, p, q, u, v, most);
+}
+
+pub grown_of : (one : Entry) (r : Rule) (a b x y n : ℕ) → one ≡ entry.Rule r → n ≡ a + b + x + y
+    → neg_ℤ (pos a) ≤ℤ r.growth.along → r.growth.along ≤ℤ pos a → neg_ℤ (pos b) ≤ℤ r.growth.across → r.growth.across ≤ℤ pos b
+    → neg_ℤ (pos x) ≤ℤ r.growth.x → r.growth.x ≤ℤ pos x → neg_ℤ (pos y) ≤ℤ r.growth.y → r.growth.y ≤ℤ pos y → IsEntryGrownWithin n one
+grown_of one r a b x y n is sum p q u v k l s t =
+    subst (λ (e : Entry). IsEntryGrownWithin n e) (sym is)
+    (record {
+      along_x = moved_within a x n r.growth.along r.growth.x p q k l (omega (arith, sum));
+      along_y = moved_within a y n r.growth.along r.growth.y p q s t (omega (arith, sum));
+      across_x = moved_within b x n r.growth.across r.growth.x u v k l (omega (arith, sum));
+      across_y = moved_within b y n r.growth.across r.growth.y u v s t (omega (arith, sum));
+    })
+
+-- what is moved by less is moved by no more
+moved_more : (m n : ℕ) (out by : ℤ) → m ≤ n → IsMovedWithin m out by → IsMovedWithin n out by
+moved_more m n out by most h =
+    let a = h.in_low in
+    let b = h.in_high in
+    let c = h.out_low in
+    let d = h.out_high in
+    record {
+      in_low = omega (arith, ints, a, b, c, d, most);
+      in_high = omega (arith, ints, a, b, c, d, most);
+      out_low = omega (arith, ints, a, b, c, d, most);
+      out_high = omega (arith, ints, a, b, c, d, most);
+    }
+
+pub grown_more : (m n : ℕ) → m ≤ n → (e : Entry) → IsEntryGrownWithin m e → IsEntryGrownWithin n e
+grown_more m n most (entry.Rule r) h = record {
+  along_x = moved_more m n r.growth.along r.growth.x most h.along_x;
+  along_y = moved_more m n r.growth.along r.growth.y most h.along_y;
+  across_x = moved_more m n r.growth.across r.growth.x most h.across_x;
+  across_y = moved_more m n r.growth.across r.growth.y most h.across_y;
+}
+grown_more m n most (entry.Metal k real) h = tt
+grown_more m n most (entry.Space real gap) h = tt
+grown_more m n most (entry.Label layer real) h = tt
+grown_more m n most entry.Nothing h = tt
+
+-- one line more
+pub grown_next : (all : List Entry) (k m n : ℕ) (one : Entry) → k < length all → one ≡ get_or all k one → m ≤ n → All (λ e. IsEntryGrownWithin m e) (take k all)
+    → IsEntryGrownWithin n one → All (λ e. IsEntryGrownWithin n e) (take (k + 1) all)
+grown_next all k m n one low is most h own =
+    All-more (λ (e : Entry). IsEntryGrownWithin n e) all k one low
+    (All-from (λ (e : Entry). IsEntryGrownWithin n e) (take k all)
+    (λ e i. grown_more m n most e (All-In (λ (x : Entry). IsEntryGrownWithin m x) (take k all) h e i)))
+    (subst (λ (x : Entry). IsEntryGrownWithin n x) is own)
 
 -- ---- edges
 
@@ -182,9 +256,9 @@ module _ (s e : ℕ) where
       let u = p.low in let v = q.high in near_axis s e e a b least (omega arith) (omega (arith, ints, u, v, meet))
 
   pub near_shapes : (xs ys : List Shape) → 1 ≤ s → Paired s e xs ys → AreWithinGap xs ys (2 * e / s + 1)
-  near_shapes xs ys least p i j here there meet =
-      let a = paired_at xs ys i p here in
-      let b = paired_at xs ys j p there in
+  near_shapes xs ys least p i j low1 low2 meet =
+      let a = paired_at xs ys i p low1 in
+      let b = paired_at xs ys j p low2 in
       record {
         left = shape_axis _ _ _ _ least a.x1 b.x2 meet.left;
         right = shape_axis _ _ _ _ least b.x1 a.x2 meet.right;
@@ -197,13 +271,36 @@ module _ (s e : ℕ) where
   box_axis a b c d p q meet = let u = p.high in let v = q.low in let w = scale_keeps s a b meet in omega (arith, ints, u, v, w)
 
   pub near_boxes : (xs ys : List Shape) → Paired s e xs ys → AreWithinGap ys xs (2 * e + 1)
-  near_boxes xs ys p i j here there meet =
+  near_boxes xs ys p i j low1 low2 meet =
       let n = paired_length xs ys p in
-      let a = paired_at xs ys i p (omega (arith, n, here)) in
-      let b = paired_at xs ys j p (omega (arith, n, there)) in
+      let a = paired_at xs ys i p (omega (arith, n, low1)) in
+      let b = paired_at xs ys j p (omega (arith, n, low2)) in
       record {
         left = box_axis _ _ _ _ a.x1 b.x2 meet.left;
         right = box_axis _ _ _ _ b.x1 a.x2 meet.right;
         low = box_axis _ _ _ _ a.y1 b.y2 meet.low;
         high = box_axis _ _ _ _ b.y1 a.y2 meet.high;
       }
+
+-- ---- the shapes of marks, and their boxes
+
+module _ (t : ProcessTable) (ms : List Mark) (n : ℕ) (ss bs : List Shape) (kept : first_lost t ms ≡ None) (aside : IsMostAside t n) (are : ss ≡ metal_shapes ms)
+    (written : bs ≡ metal_boxes t ms) where
+  paired : Paired t.head.scale n ss bs
+  paired =
+      subst (λ (k : ℕ). Paired t.head.scale k ss bs) (sym aside.is)
+      (subst (λ (xs : List Shape). Paired t.head.scale (t.head.scale * 100 + aside.reach) xs bs) (sym are)
+      (subst (λ (ys : List Shape). Paired t.head.scale (t.head.scale * 100 + aside.reach) (metal_shapes ms) ys) (sym written)
+      (all_paired t aside.reach aside.grown ms kept)))
+
+  pub same_count : length bs ≡ length ss
+  same_count = paired_length t.head.scale n ss bs paired
+
+  pub same_metal : (k : ℕ) → k < length ss → (shape_at ss k).metal ≡ (shape_at bs k).metal
+  same_metal k low = paired_metal t.head.scale n ss bs k paired low
+
+  pub shapes_gap : 1 ≤ t.head.scale → AreWithinGap ss bs (2 * n / t.head.scale + 1)
+  shapes_gap least = near_shapes t.head.scale n ss bs least paired
+
+  pub boxes_gap : AreWithinGap bs ss (2 * n + 1)
+  boxes_gap = near_boxes t.head.scale n ss bs paired

@@ -109,15 +109,16 @@ module _ (t : ProcessTable) (items : List Item) (l : Library) (drawn : AreDrawn 
   of_marks : (e : ProcessError) → IsMakeRefusal t (marks l items) e → IsProcessRefusal t items l e
   of_marks errors.Memory h = tt
   of_marks (errors.Lost word) h = (drawn, h)
-  of_marks (errors.UnknownCell model) h = absurd h.1.1
-  of_marks (errors.NotMappable model) h = absurd h.1.1
+  of_marks (errors.UnknownCell model) h = absurd h.2
+  of_marks (errors.NotMappable model) h = absurd h.2
   of_marks (errors.Joined metal a b) h =
       (drawn, h.0, subst (λ (ss : List Shape). IsFirstJoined ss (layout_metals t items l) metal a b) (shapes_same items l) h.1)
   of_marks (errors.Parted metal a b) h =
-      (drawn, h.0, subst (λ (ss : List Shape). NoneUnlike ss (layout_metals t items l) × IsFirstParted ss (layout_metals t items l) metal a b) (shapes_same items l) h.1)
-  of_marks (errors.Limit limit) h = inr (drawn, h.0, meets h.1.0, h.1.1)
-  of_marks (errors.OffGrid real rect) h = (record { drawn = drawn; kept = h.0; meet = meets h.1.0; few = h.1.1.0 }, h.1.1.1)
-  of_marks (errors.Near real a b) h = (record { drawn = drawn; kept = h.0; meet = meets h.1.0; few = h.1.1.0 }, h.1.1.1.0, h.1.1.1.1)
+      let x = subst (λ (ss : List Shape). NoneUnlike ss (layout_metals t items l) × IsFirstParted ss (layout_metals t items l) metal a b) (shapes_same items l) h.1 in
+      (drawn, h.0, x.0, x.1)
+  of_marks (errors.Limit limit) h = inr (drawn, h.0, meets h.1, h.2)
+  of_marks (errors.OffGrid real rect) h = (record { drawn = drawn; kept = h.0; meet = meets h.1; few = h.2.0 }, h.2.1)
+  of_marks (errors.Near real a b) h = (record { drawn = drawn; kept = h.0; meet = meets h.1; few = h.2.0 }, h.2.1, h.2.2)
 
   pub make_refusal : (ms : List Mark) (e : ProcessError) → ms ≡ marks l items → IsMakeRefusal t ms e → IsProcessRefusal t items l e
   make_refusal ms e are h = of_marks e (subst (λ (xs : List Mark). IsMakeRefusal t xs e) are h)

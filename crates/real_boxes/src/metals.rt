@@ -13,7 +13,7 @@ use crate::boxes::{RealBox, put_boxes};
 use crate::error::ProcessError;
 use crate::judging::metal_box;
 use crate::mark::Mark;
-use real_table::{Entry, MOST_LENGTH, ProcessTable};
+use real_table::{Entry, ProcessTable};
 use std::alloc::{AllocError, Global};
 use sym_geom::{PAD_WIDTH, Rect, WIRE_OVERHANG, touches};
 use sym_near::{Pair, near_pairs};
@@ -199,6 +199,16 @@ fn entry_reach(entry: &Entry) -> u32
     size(&growth.along) + size(&growth.across) + size(&growth.x) + size(&growth.y)
 }
 
+fn larger(a: u32, b: u32) -> u32
+    requires first_most { a ≤ 4 * MOST_LENGTH }
+    requires second_most { b ≤ 4 * MOST_LENGTH }
+    ensures first { a ≤ result }
+    ensures second { b ≤ result }
+    ensures most { result ≤ 4 * MOST_LENGTH }
+{
+    if a < b { b } else { a }
+}
+
 /// How far, at most, lines of the table move an edge.
 fn farthest(entries: &[Entry]) -> u32
     requires { All IsEntryWithin entries.now }
@@ -207,7 +217,7 @@ fn farthest(entries: &[Entry]) -> u32
 {
     let mut most = 0;
     for entry in entries {
-        most = most.max(entry_reach(entry));
+        most = larger(most, entry_reach(entry));
     }
     most
 }
@@ -309,7 +319,7 @@ fn keep_shapes_together(
 /// How far, at most, an edge of a metal's box lies from that of its shape, in real units.
 fn most_aside(table: &ProcessTable) -> u32
     requires { IsProcessTable table.now }
-    ensures { IsMostAside table.now result }
+    ensures aside { IsMostAside table.now result }
     ensures least { 1 ≤ table.now.head.scale }
     ensures most { result ≤ 5 * MOST_LENGTH }
 {
@@ -330,5 +340,6 @@ pub fn keep_joints(alloc: Global, table: &ProcessTable, marks: &[Mark]) -> Resul
     let boxes = metal_boxes(alloc, table, marks)?;
     let aside = most_aside(table);
     keep_shapes_apart(alloc, &shapes, &boxes, 2 * aside / table.head.scale + 1)?;
-    keep_shapes_together(alloc, &shapes, &boxes, 2 * aside + 1)
+    keep_shapes_together(alloc, &shapes, &boxes, 2 * aside + 1)?;
+    Ok(())
 }
