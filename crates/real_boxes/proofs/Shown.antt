@@ -1,6 +1,6 @@
 -- What marks show on metals is what the layout shows.
 use Rattle.std.proofs.Common.{◌≡◌, ℕ, suc, ◌+◌, Bool, true, false, List, [], ◌∷◌, ◌++◌, map, Option, None, Some, refl, sym, ap, ◌∙◌, append_assoc, arith, neg_ℤ}
-use Rattle.std.specs.Prelude.{ℤ, pos, ◌+ℤ◌, ◌-ℤ◌, int_div}
+use Rattle.std.specs.Prelude.{ℤ, pos}
 use Rattle.std.proofs.lemmas.Int.{ints}
 use Rattle.std.proofs.lemmas.List.{map-append}
 use Rattle.vlsi_base.specs.declared.name.Name.{Name}
@@ -19,7 +19,7 @@ use Rattle.cell_model.specs.Library.{Library, cell_of}
 use Rattle.cell_model.specs.Layout.{placed, instance_shapes, instances_of, all_instances_show, shapes}
 use Rattle.cougar_extract.specs.Stages.{placed_rect}
 use Rattle.real_boxes.specs.declared.mark.Mark.{Mark}
-use Rattle.real_boxes.specs.Marks.{is_upright, shortened, metal_above, point, item_marks, drawn_marks, placed_mark, instance_marks, item_shows, shown_marks, marks}
+use Rattle.real_boxes.specs.Marks.{is_upright, shortened, metal_above, point, item_marks, drawn_marks, placed_mark, instance_marks, shown_marks, marks}
 use Rattle.real_boxes.specs.Metals.{bare, on_metal, lengthened, padded, shown_by, shown_rect, mark_shapes, metal_shapes}
 
 -- ---- rectangles

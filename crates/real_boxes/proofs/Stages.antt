@@ -14,7 +14,7 @@ use Rattle.real_boxes.specs.declared.error.ProcessError.TheVariants as errors
 use Rattle.real_boxes.specs.Marks.{marks}
 use Rattle.real_boxes.specs.Boxes.{boxes_of}
 use Rattle.real_boxes.specs.Metals.{bare, metal_shapes, metal_boxes, MeetAsShapes, NoneUnlike, IsFirstJoined, IsFirstParted, IsMetalRefusal}
-use Rattle.real_boxes.specs.Refused.{first_lost, layout_boxes, layout_shapes, layout_metals, HasBoxes, CanBeMade, AreGood, IsLostRefusal, IsFitRefusal, IsNearRefusal, first_unfit, KeepsApart, IsBoxRefusal, IsDrawRefusal, IsMakeRefusal, IsProcessRefusal}
+use Rattle.real_boxes.specs.Refused.{first_lost, layout_boxes, layout_shapes, layout_metals, CanBeMade, AreGood, IsLostRefusal, IsFitRefusal, IsNearRefusal, first_unfit, IsBoxRefusal, IsDrawRefusal, IsMakeRefusal, IsProcessRefusal}
 use Rattle.real_boxes.proofs.Shown.{shapes_same}
 
 pub draw_refusal : (t : ProcessTable) (items : List Item) (l : Library) (e : ProcessError) → IsDrawRefusal items l e → IsProcessRefusal t items l e

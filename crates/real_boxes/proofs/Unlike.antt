@@ -1,9 +1,7 @@
 -- The first of pairs that don't meet, though others at their places do.
-use Rattle.std.proofs.Common.{◌≡◌, ◌⊎◌, inl, inr, ℕ, ◌+◌, ◌<◌, ◌≤◌, List, length, get_or, arith, sym, ◌∙◌, ap, subst}
-use Rattle.std.specs.Prelude.{◌≢◌}
+use Rattle.std.proofs.Common.{◌≡◌, ◌⊎◌, inl, inr, ℕ, ◌<◌, ◌≤◌, List, length, arith, sym, ◌∙◌, ap, subst}
 use Rattle.std.proofs.lemmas.Bool.{cases_lt, cases_eq}
-use Rattle.sym_geom.specs.Rect.{Meet, Near}
-use Rattle.sym_geom.specs.declared.rect.Rect.{Rect}
+use Rattle.sym_geom.specs.Rect.{Meet}
 use Rattle.sym_shapes.specs.Shape.{Shape}
 use Rattle.sym_near.specs.declared.near.Pair.{Pair}
 use Rattle.sym_near.specs.declared.near.Relation.TheVariants as relation

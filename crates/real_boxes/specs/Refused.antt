@@ -1,5 +1,5 @@
 -- Which layouts have no boxes of a process.
-use Rattle.std.specs.Prelude.{◌≡◌, ◌⊎◌, ℕ, ◌==◌, ◌+◌, ◌<◌, ◌≤◌, ◌^◌, ℤ, pos, Bool, not, ◌&&◌, int_lt, int_rem, find, List, [], ◌∷◌, ◌++◌, length, map, filter, slice_index_or, Option, None, Some, All}
+use Rattle.std.specs.Prelude.{◌≡◌, ◌⊎◌, ℕ, ◌==◌, ◌<◌, ◌≤◌, ◌^◌, ℤ, pos, Bool, not, ◌&&◌, int_lt, int_rem, find, List, ◌∷◌, ◌++◌, length, map, filter, slice_index_or, Option, None, Some, All}
 use Rattle.std.specs.Ordering.{int_eq}
 use Rattle.vlsi_base.specs.declared.fault.Limit.{Limit}
 use Rattle.vlsi_base.specs.declared.fault.LimitKind.TheVariants as kind

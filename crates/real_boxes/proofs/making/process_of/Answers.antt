@@ -1,8 +1,7 @@
-use Rattle.std.proofs.Common.{◌≡◌, ◌∙◌, List, All, sym, subst, rules}
+use Rattle.std.proofs.Common.{◌∙◌, List, All, sym, subst, rules}
 use Rattle.sym_geom.specs.Rect.{HasReach}
 use Rattle.cell_checks.specs.Checked.{library_of}
 use Rattle.real_boxes.specs.declared.mark.Mark.{Mark}
-use Rattle.real_boxes.specs.Marks.{marks}
 use Rattle.real_boxes.proofs.Reaches.{marks_reach}
 use Rattle.real_boxes.proofs.Stages.{draw_refusal, few_shapes, make_refusal, can_be_made}
 use Rattle.real_boxes.proofs.making.process_of.Goals as goal

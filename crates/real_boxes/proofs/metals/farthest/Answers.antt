@@ -1,4 +1,4 @@
-use Rattle.std.proofs.Common.{List, All, take, arith, subst}
+use Rattle.std.proofs.Common.{List, All, arith, subst}
 use Rattle.std.proofs.lemmas.List.{take_all}
 use Rattle.real_table.specs.declared.table.Entry.{Entry}
 use Rattle.real_boxes.specs.Metals.{IsEntryGrownWithin}

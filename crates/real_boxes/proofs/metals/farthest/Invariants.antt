@@ -1,4 +1,4 @@
-use Rattle.std.proofs.Common.{ℕ, ◌*◌, ◌≤◌, take, All}
+use Rattle.std.proofs.Common.{◌*◌, ◌≤◌, take, All}
 use Rattle.real_table.specs.declared.table.TheConstants.{MOST_LENGTH}
 use Rattle.real_boxes.specs.Metals.{IsEntryGrownWithin}
 use Rattle.real_boxes.proofs.metals.farthest.Given as goal

@@ -1,4 +1,4 @@
-use Rattle.std.proofs.Common.{◌≡◌, ◌∙◌, ℕ, ◌<◌, List, length, sym, subst, ap, arith}
+use Rattle.std.proofs.Common.{◌≡◌, ◌∙◌, List, length, sym, subst, ap, arith}
 use Rattle.sym_shapes.specs.Shape.{Shape}
 use Rattle.real_boxes.specs.Metals.{metal_shapes, metal_boxes, NoneUnlike}
 use Rattle.real_boxes.proofs.Beside.{same_count, same_metal, shapes_gap, boxes_gap}
