@@ -162,6 +162,24 @@ def close(boxes, gap):
     return found
 
 
+def meet(a, b):
+    return cellcheck.gap(a, b) <= 0
+
+
+def unlike(shapes, scale):
+    """The pairs of (metal, rectangle, box) of one metal whose rectangles touch and boxes don't meet, or the other way round, each with whether the
+    boxes meet: by a sweep from the left."""
+    ends = [(min(scale * shape[0], box[0]), max(scale * shape[2], box[2])) for _, shape, box in shapes]
+    order = sorted(range(len(shapes)), key=lambda k: ends[k])
+    for at, k in enumerate(order):
+        for other in order[at + 1 :]:
+            if ends[other][0] > ends[k][1]:
+                break
+            one, two = shapes[k], shapes[other]
+            if one[0] == two[0] and meet(one[1], two[1]) != meet(one[2], two[2]):
+                yield (min(k, other), max(k, other)), meet(one[2], two[2])
+
+
 def fits(box, grid):
     return all(edge % grid == 0 for edge in box) and box[0] < box[2] and box[1] < box[3]
 
@@ -174,15 +192,26 @@ class Layout:
         for placed in flat.instances:
             if not cells[placed.model].is_mappable():
                 raise extraction.Refused(2, f"1: unsupported {placed.model}")
-        self.figure, self.table, self.boxes = figure, table, []
-        drawn = list(all_marks(figure, cells))
-        for mark in drawn:
+        self.figure, self.table, self.boxes, on_metals = figure, table, [], []
+        for mark in all_marks(figure, cells):
             made = list(boxes_of(mark, table))
             for metal in mark[3]:
-                if not {real for number, real in table.metals if number == metal} & {real for real, _ in made}:
+                written = [box for real, box in made if (metal, real) in table.metals]
+                if not written:
                     raise extraction.Refused(2, f"1: unsupported {mark[0].decode()}")
+                on_metals.append(written[0])
             self.boxes += made
+        self.look_at_metals([(shape.metal, shape.box, box) for shape, box in zip(flat.shapes, on_metals, strict=True)])
         self.judge()
+
+    def look_at_metals(self, shapes):
+        """Shapes of one metal touch exactly where their boxes meet."""
+        pairs = list(unlike(shapes, self.table.scale))
+        for word, is_joined in (("near", True), ("apart", False)):
+            found = min((pair for pair, meet in pairs if meet == is_joined), default=None)
+            if found:
+                (metal, a, _), (_, b, _) = (shapes[k] for k in found)
+                raise Wrong(f"{word} {metal} {told(a)} {told(b)}")
 
     def judge(self):
         for real, box in self.boxes:

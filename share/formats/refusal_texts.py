@@ -147,6 +147,11 @@ KINDS = {
     "near": Text(
         "Two shapes of metal {layer} don't touch, but their boxes would.", "Take a smaller grow of this metal in the table, or a larger scale.", "What was compared: status 11"
     ),
+    "apart": Text(
+        "Two shapes of metal {layer} touch, and their boxes wouldn't meet.",
+        "The table's lines of this metal keep less than the 100 by which a wire sticks out at its ends, or shrink or move one of the two alone.",
+        "What was compared: status 11",
+    ),
     "near boxes": Text(
         "Two boxes on {layer} don't meet, and are nearer than the table's line `space {layer}` says. Their edges, in real units:{numbers}.",
         "Two shapes of the layout that lie too near each other, as boxes of one net beside each other do; or a line `segment` or `contact` that grows them by too much.",

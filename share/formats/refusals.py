@@ -35,6 +35,7 @@ FORMS = [
         ("no behaviour", r"(?P<tool>\w+): no behaviour (?P<cell>\S+)"),
         ("different", r"(?P<tool>lvx): different (?P<name>\S+)"),
         ("near", r"(?P<tool>s2r): near (?P<layer>\d+)(?P<numbers>( -?\d+){8})"),
+        ("apart", r"(?P<tool>s2r): apart (?P<layer>\d+)(?P<numbers>( -?\d+){8})"),
         ("near boxes", r"(?P<tool>s2r): near (?P<layer>[A-Za-z]\w*)(?P<numbers>( -?\d+){8})"),
         ("off grid", r"(?P<tool>s2r): off grid (?P<layer>\w+)(?P<numbers>( -?\d+){4})"),
         ("shorted", r"(?P<tool>cougar): shorted (?P<a>\S+) (?P<b>\S+)"),

@@ -1,6 +1,6 @@
 -- The first of near boxes.
-use Rattle.std.proofs.Common.{◌≡◌, ◌⊎◌, inl, inr, ℕ, zero, suc, ◌+◌, ◌<◌, ◌≤◌, Bool, true, false, ◌==◌, List, [], ◌∷◌, ◌++◌, length, map, take, drop, get_or, None, Some, All, refl, arith, sym, ◌∙◌, ap, subst, append_assoc, if◌then◌else◌}
-use Rattle.std.specs.Prelude.{filter, MatchOption}
+use Rattle.std.proofs.Common.{◌≡◌, ◌⊎◌, inl, inr, ℕ, ◌+◌, ◌<◌, ◌≤◌, Bool, true, false, ◌==◌, List, [], ◌∷◌, ◌++◌, length, take, get_or, All, refl, arith, sym, ◌∙◌, ap, subst, if◌then◌else◌}
+use Rattle.std.specs.Prelude.{filter}
 use Rattle.std.proofs.lemmas.Bool.{cases_eq}
 use Rattle.std.proofs.lemmas.List.{get_or-map, length-map, take_all}
 use Rattle.std.proofs.lemmas.List.Elements.{All-more}
@@ -158,6 +158,8 @@ close_of all boxes before behind one (errors.NotMappable model) is apart h = abs
 close_of all boxes before behind one (errors.Limit limit) is apart h = absurd h
 close_of all boxes before behind one (errors.Lost word) is apart h = absurd h
 close_of all boxes before behind one (errors.OffGrid real rect) is apart h = absurd h
+close_of all boxes before behind one (errors.Joined metal a b) is apart h = absurd h
+close_of all boxes before behind one (errors.Parted metal a b) is apart h = absurd h
 
 pub close_at : (all : List Entry) (boxes : List RealBox) (k : ℕ) (one : Entry) (e : ProcessError) → k < length all → one ≡ get_or all k one
     → All (KeepsApart all boxes) (take k all) → IsEntryRefusal all boxes one e → IsNearRefusal all boxes e

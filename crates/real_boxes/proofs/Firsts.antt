@@ -1,12 +1,11 @@
 -- The first mark whose metal would be lost, and the first box that doesn't fit.
-use Rattle.std.proofs.Common.{◌≡◌, ◌⊎◌, inl, inr, ℕ, ◌+◌, ◌<◌, Bool, true, false, not, List, [], ◌∷◌, length, drop, get_or, Option, None, Some, cond, refl, sym, ◌∙◌, ap, subst}
+use Rattle.std.proofs.Common.{◌≡◌, ◌⊎◌, inl, inr, ℕ, ◌+◌, ◌<◌, Bool, true, false, not, List, [], ◌∷◌, length, drop, get_or, Some, cond, refl, sym, ◌∙◌, ap, subst}
 use Rattle.std.specs.Prelude.{find}
 use Rattle.std.proofs.lemmas.Bool.{cond-true, not_from_false}
 use Rattle.std.proofs.lemmas.List.{at_drop_more}
 use Rattle.std.proofs.lemmas.Option.{same_Some}
 use Rattle.vlsi_base.specs.Member.{In, here, there}
 use Rattle.cell_model.proofs.Members.{All-In}
-use Rattle.sym_geom.specs.declared.rect.Rect.{Rect}
 use Rattle.real_table.specs.declared.table.Entry.{Entry}
 use Rattle.real_table.specs.declared.table.ProcessTable.{ProcessTable}
 use Rattle.real_boxes.specs.declared.mark.Mark.{Mark}

@@ -1,10 +1,10 @@
 -- How far what is drawn reaches.
-use Rattle.std.proofs.Common.{◌≡◌, ◌<◌, ⊎_elim, ℕ, refl, Bool, true, false, length, List, [], ◌∷◌, get_or, Option, None, Some, All, sym, subst, arith, neg_ℤ}
+use Rattle.std.proofs.Common.{◌≡◌, ◌<◌, ⊎_elim, ℕ, refl, Bool, true, false, length, List, [], ◌∷◌, get_or, Option, None, Some, All, sym, subst, arith}
 use Rattle.std.specs.Prelude.{ℤ, pos, ◌+ℤ◌, ◌-ℤ◌, ◌≤ℤ◌, int_div}
 use Rattle.std.specs.Int.{int_min, int_max}
 use Rattle.std.proofs.lemmas.Int.{ints, clamps}
 use Rattle.vlsi_base.specs.Member.{In, here, there}
-use Rattle.sym_geom.specs.Rect.{IsCoordinate, IsReach, HasReach, square}
+use Rattle.sym_geom.specs.Rect.{IsCoordinate, HasReach, square}
 use Rattle.sym_geom.specs.Items.{IsReadySegment, run_rect}
 use Rattle.sym_geom.specs.declared.rect.Rect.{Rect}
 use Rattle.sym_geom.specs.declared.item.Direction.{Direction}
@@ -22,7 +22,7 @@ use Rattle.cell_model.proofs.Members.{In-at, In-split, In-map_back, All-In, All-
 use Rattle.cougar_extract.specs.Stages.{IsCellEdge, HasCellEdges}
 use Rattle.s2r_cif.proofs.Reached.{placed_reach, edges_reach, named_formed}
 use Rattle.real_boxes.specs.declared.mark.Mark.{Mark}
-use Rattle.real_boxes.specs.Marks.{is_upright, shortened, item_marks, drawn_marks, placed_mark, instance_marks, item_shows, shown_marks, marks}
+use Rattle.real_boxes.specs.Marks.{is_upright, shortened, item_marks, drawn_marks, placed_mark, instance_marks, shown_marks, marks}
 
 -- ---- one line
 

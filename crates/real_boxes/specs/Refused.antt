@@ -1,5 +1,5 @@
 -- Which layouts have no boxes of a process.
-use Rattle.std.specs.Prelude.{◌≡◌, ◌⊎◌, ℕ, ◌==◌, ◌+◌, ◌<◌, ◌≤◌, ◌^◌, ℤ, pos, Bool, not, ◌&&◌, int_lt, int_rem, find, List, [], ◌∷◌, ◌++◌, length, map, filter, slice_index_or, Option, None, Some, All}
+use Rattle.std.specs.Prelude.{◌≡◌, ◌⊎◌, ℕ, ◌==◌, ◌<◌, ◌≤◌, ◌^◌, ℤ, pos, Bool, not, ◌&&◌, int_lt, int_rem, find, List, ◌∷◌, ◌++◌, length, map, filter, slice_index_or, Option, None, Some, All}
 use Rattle.std.specs.Ordering.{int_eq}
 use Rattle.vlsi_base.specs.declared.fault.Limit.{Limit}
 use Rattle.vlsi_base.specs.declared.fault.LimitKind.TheVariants as kind
@@ -7,7 +7,8 @@ use Rattle.sym_geom.specs.Rect.{Meet, Near}
 use Rattle.sym_geom.specs.declared.rect.Rect.{Rect}
 use Rattle.sym_geom.specs.declared.item.Item.{Item}
 use Rattle.cell_model.specs.Library.{Library}
-use Rattle.cell_model.specs.Layout.{instances_of}
+use Rattle.sym_shapes.specs.Shape.{Shape}
+use Rattle.cell_model.specs.Layout.{instances_of, shapes}
 use Rattle.cougar_extract.specs.Extracted.{AreKnown}
 use Rattle.cougar_extract.specs.Refused.{IsFirstUnknown, IsTooLarge}
 use Rattle.s2r_cif.specs.Refused.{AreMappable, IsFirstUnmappable, AreDrawn}
@@ -20,7 +21,7 @@ use Rattle.real_boxes.specs.declared.error.ProcessError.{ProcessError}
 use Rattle.real_boxes.specs.declared.error.ProcessError.TheVariants as error
 use Rattle.real_boxes.specs.Marks.{marks}
 use Rattle.real_boxes.specs.Boxes.{layer_of, boxes_of}
-use Rattle.real_boxes.specs.Metals.{is_kept}
+use Rattle.real_boxes.specs.Metals.{is_kept, bare, metal_shapes, metal_boxes, MeetAsShapes, NoneUnlike, IsFirstJoined, IsFirstParted, IsMetalRefusal}
 
 -- ---- metal that would be lost
 
@@ -109,9 +110,18 @@ pub record IsFirstClose (all : List Entry) (boxes : List RealBox) (real : List �
 abbrev pub layout_boxes : ProcessTable → List Item → Library → List RealBox
 layout_boxes t items l = boxes_of t.entries t.head.scale (marks l items)
 
+-- its shapes on metals, without what they belong to, and the boxes in which these are written
+abbrev pub layout_shapes : List Item → Library → List Shape
+layout_shapes items l = map bare (shapes items l)
+
+abbrev pub layout_metals : ProcessTable → List Item → Library → List Shape
+layout_metals t items l = metal_boxes t (marks l items)
+
+-- no metal is lost, boxes of metals meet exactly where their shapes touch, and boxes are fewer than 2^32
 pub record HasBoxes (t : ProcessTable) (items : List Item) (l : Library) : Type 0 where
   pub drawn : AreDrawn items l
   pub kept : first_lost t (marks l items) ≡ None
+  pub meet : MeetAsShapes (layout_shapes items l) (layout_metals t items l)
   pub few : length (layout_boxes t items l) < 2 ^ 32
 
 -- a layout has boxes of a process
@@ -124,15 +134,22 @@ abbrev pub IsMany : List RealBox → Limit → Type 0
 IsMany boxes limit = (2 ^ 32 ≤ length boxes) × (limit ≡ record { which = kind.Size; reached = length boxes })
 
 -- Why a layout has no boxes of a process, if memory hasn't run out, in this order: an unknown cell, a cell that isn't mappable, 2^32
--- shapes or more, metal that would be lost, 2^32 boxes or more, a box that doesn't fit, boxes that are too near.
+-- shapes or more, metal that would be lost, shapes that would be joined, shapes that would be parted, 2^32 boxes or more, a box that
+-- doesn't fit, boxes that are too near.
 abbrev pub IsProcessRefusal : ProcessTable → List Item → Library → ProcessError → Type 0
 IsProcessRefusal t items l error.Memory = Unit {0}
 IsProcessRefusal t items l (error.UnknownCell model) = IsFirstUnknown (instances_of items) l model
 IsProcessRefusal t items l (error.NotMappable model) = AreKnown (instances_of items) l × IsFirstUnmappable (instances_of items) l model
 IsProcessRefusal t items l (error.Limit limit) =
     (AreKnown (instances_of items) l × AreMappable (instances_of items) l × IsTooLarge items l limit)
-    ⊎ (AreDrawn items l × (first_lost t (marks l items) ≡ None) × IsMany (layout_boxes t items l) limit)
+    ⊎ (AreDrawn items l × (first_lost t (marks l items) ≡ None) × MeetAsShapes (layout_shapes items l) (layout_metals t items l)
+    × IsMany (layout_boxes t items l) limit)
 IsProcessRefusal t items l (error.Lost word) = AreDrawn items l × IsFirstLost t (marks l items) word
+IsProcessRefusal t items l (error.Joined metal a b) =
+    AreDrawn items l × (first_lost t (marks l items) ≡ None) × IsFirstJoined (layout_shapes items l) (layout_metals t items l) metal a b
+IsProcessRefusal t items l (error.Parted metal a b) =
+    AreDrawn items l × (first_lost t (marks l items) ≡ None) × NoneUnlike (layout_shapes items l) (layout_metals t items l)
+    × IsFirstParted (layout_shapes items l) (layout_metals t items l) metal a b
 IsProcessRefusal t items l (error.OffGrid real rect) =
     HasBoxes t items l × IsUnfit t.entries t.head.grid (layout_boxes t items l) real rect
 IsProcessRefusal t items l (error.Near real a b) =
@@ -193,8 +210,11 @@ IsBoxRefusal t boxes (error.OffGrid real rect) = (length boxes < 2 ^ 32) × IsUn
 IsBoxRefusal t boxes (error.Near real a b) = (length boxes < 2 ^ 32) × (first_unfit t.head.grid boxes ≡ None) × IsFirstClose t.entries boxes real a b
 IsBoxRefusal t boxes e = ⊥
 
--- metal would be lost, or the boxes aren't good
+-- metal would be lost, joined or parted, or the boxes aren't good
 abbrev pub IsMakeRefusal : ProcessTable → List Mark → ProcessError → Type 0
 IsMakeRefusal t all error.Memory = Unit {0}
 IsMakeRefusal t all (error.Lost word) = IsFirstLost t all word
-IsMakeRefusal t all e = (first_lost t all ≡ None) × IsBoxRefusal t (boxes_of t.entries t.head.scale all) e
+IsMakeRefusal t all (error.Joined metal a b) = (first_lost t all ≡ None) × IsMetalRefusal (metal_shapes all) (metal_boxes t all) (error.Joined metal a b)
+IsMakeRefusal t all (error.Parted metal a b) = (first_lost t all ≡ None) × IsMetalRefusal (metal_shapes all) (metal_boxes t all) (error.Parted metal a b)
+IsMakeRefusal t all e =
+    (first_lost t all ≡ None) × MeetAsShapes (metal_shapes all) (metal_boxes t all) × IsBoxRefusal t (boxes_of t.entries t.head.scale all) e

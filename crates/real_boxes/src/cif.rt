@@ -62,12 +62,7 @@ fn box_line(alloc: Global, out: &mut FileBytes, rect: &Rect) -> Result<(), Alloc
 }
 
 /// The line of a box, if it is on this layer.
-fn line_on(
-    alloc: Global,
-    out: &mut FileBytes,
-    layer: u64,
-    one: &RealBox,
-) -> Result<(), AllocError>
+fn line_on(alloc: Global, out: &mut FileBytes, layer: u64, one: &RealBox) -> Result<(), AllocError>
     requires { HasEdges one.now.rect }
     ensures { OnOk result (out.new ≡ out.old ++ line_of_layer layer one.now) }
 {

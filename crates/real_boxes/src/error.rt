@@ -18,6 +18,10 @@ pub enum ProcessError {
     Limit(Limit),
     /// The layer or contact of the first metal that would be lost.
     Lost(Text),
+    /// The first two shapes of a metal that don't touch, but whose boxes meet: their symbolic rectangles.
+    Joined { metal: u8, a: Rect, b: Rect },
+    /// The first two shapes of a metal that touch, and whose boxes don't meet.
+    Parted { metal: u8, a: Rect, b: Rect },
     /// The first box that doesn't fit the grid, or has no area, and its real layer.
     OffGrid { real: Text, rect: Rect },
     /// The first two boxes on a real layer that don't meet, but are nearer than the table says.

@@ -39,7 +39,7 @@ fn is_layer_of(table: &ProcessTable, metal: u8, layer: u64) -> bool
 }
 
 /// The first of these boxes on a layer where a metal is written.
-fn metal_box(table: &ProcessTable, boxes: &[RealBox], metal: u8) -> Option<RealBox>
+pub fn metal_box(table: &ProcessTable, boxes: &[RealBox], metal: u8) -> Option<RealBox>
     ensures { result ≡ box_of_metal table.now.entries metal boxes.now }
 {
     for one in boxes {

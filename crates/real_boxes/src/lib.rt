@@ -11,6 +11,7 @@ mod judging;
 mod labels;
 mod making;
 mod mark;
+mod metals;
 mod near;
 mod placing;
 mod words;

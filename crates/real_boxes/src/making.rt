@@ -13,12 +13,14 @@ ghost use Rattle.real_table.specs.Bounds.{IsProcessTable};
 ghost use Rattle.real_boxes.specs.declared.error.ProcessError.TheVariants as error;
 ghost use Rattle.real_boxes.specs.Bounds.{AreBoxes, AreOnLayers, IsLayer, ReachAll};
 ghost use Rattle.real_boxes.specs.Boxes.{boxes_of as boxes_of_marks, layer_of};
+ghost use Rattle.real_boxes.specs.Metals.{MeetAsShapes, metal_boxes, metal_shapes};
 ghost use Rattle.real_boxes.specs.Refused.{AreGood, CanBeMade, IsBoxRefusal, IsDrawRefusal, IsFitRefusal, IsMakeRefusal, IsProcessRefusal, first_lost, first_unfit as first_unfit_of, layout_boxes};
 
 use crate::boxes::{RealBox, boxes_of, layer_of};
 use crate::error::ProcessError;
 use crate::judging::{first_unfit, keep_metal};
 use crate::mark::Mark;
+use crate::metals::keep_joints;
 use crate::near::keep_apart;
 use crate::placing::layout_marks;
 use ap_io::Figure;
@@ -129,13 +131,16 @@ fn made_of(
 ) -> Result<Vec<RealBox>, ProcessError>
     requires table { IsProcessTable table.now }
     requires reach { ReachAll marks.now }
+    requires few { length (metal_shapes marks.now) < 2 ^ 32 }
     ensures value { IfOk result (λ boxes. boxes.items ≡ boxes_of_marks table.now.entries table.now.head.scale marks.now) }
     ensures edges { IfOk result (λ boxes. AreBoxes boxes.items) }
     ensures kept { OnOk result (first_lost table.now marks.now ≡ None) }
+    ensures meet { OnOk result (MeetAsShapes (metal_shapes marks.now) (metal_boxes table.now marks.now)) }
     ensures good { IfOk result (λ boxes. AreGood table.now boxes.items) }
     ensures refused { IfErr result (λ e. IsMakeRefusal table.now marks.now e) }
 {
     keep_metal(alloc, table, marks)?;
+    keep_joints(alloc, table, marks)?;
     let boxes = boxes_of(alloc, table, marks)?;
     check_boxes(alloc, table, &boxes)?;
     Ok(boxes)
@@ -169,9 +174,11 @@ fn process_of(
 ///
 /// It is refused, in this order: by `UnknownCell` exactly where the model of an instance isn't in the library, and by `NotMappable`
 /// exactly where its cell isn't mappable, each at the first such; by `Limit` of `Size` where there are 2^32 or more shapes; by `Lost` at
-/// the first drawing that shows metal which the table doesn't write; by `Limit` of `Size` where there are 2^32 or more boxes; by
-/// `OffGrid` at the first box with an edge off the grid, or without an area; by `Near` at the first line of the table that keeps boxes
-/// apart where there are two that are nearer, and there at the first two.
+/// the first drawing that shows metal which the table doesn't write; by `Joined` at the first two shapes of one metal that don't touch,
+/// but whose boxes meet; by `Parted` at the first two that touch, and whose boxes don't meet; by `Limit` of `Size` where there are 2^32
+/// or more boxes; by `OffGrid` at the first box with an edge off the grid, or without an area; by `Near` at the first line of the table
+/// that keeps boxes apart where there are two that are nearer, and there at the first two. So boxes of one metal meet exactly where
+/// their shapes touch.
 ///
 /// Takes memory for what is drawn, the boxes, a few entries for each of them, and those that are too near; time for these, times the
 /// lines of the table and the logarithm of their number.

@@ -10,8 +10,8 @@ use crate::words::{contact_word, layer_word};
 use s2r_cif::lower_metal;
 use std::alloc::{AllocError, Global};
 use sym_geom::{
-    Connector, Contact, Direction, Item, Rect, Segment, Via, WIRE_OVERHANG, connector_rect, metal_of,
-    segment_rect,
+    Connector, Contact, Direction, Item, Rect, Segment, Via, WIRE_OVERHANG, connector_rect,
+    metal_of, segment_rect,
 };
 use vlsi_base::Text;
 

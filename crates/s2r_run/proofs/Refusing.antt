@@ -52,6 +52,10 @@ module _ (c : S2rCommand) (x : Texts) (l : Library) (f : Figure) (t : ProcessTab
       subst (λ (u : Status). IsFair u None (Makes c x (Err (refusal u None)))) (sym k) (refl, no_boxes l f t (errors.Limit limit) read h refl)
   told_of (errors.Lost word) s h k =
       subst (λ (u : Status). IsFair u None (Makes c x (Err (refusal u None)))) (sym k) (refl, no_boxes l f t (errors.Lost word) read h refl)
+  told_of (errors.Joined metal a b) s h k =
+      subst (λ (u : Status). IsFair u None (Makes c x (Err (refusal u None)))) (sym k) (refl, no_boxes l f t (errors.Joined metal a b) read h refl)
+  told_of (errors.Parted metal a b) s h k =
+      subst (λ (u : Status). IsFair u None (Makes c x (Err (refusal u None)))) (sym k) (refl, no_boxes l f t (errors.Parted metal a b) read h refl)
   told_of (errors.OffGrid real rect) s h k =
       subst (λ (u : Status). IsFair u None (Makes c x (Err (refusal u None)))) (sym k) (refl, no_boxes l f t (errors.OffGrid real rect) read h refl)
   told_of (errors.Near real a b) s h k =

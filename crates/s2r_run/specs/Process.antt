@@ -15,7 +15,7 @@ use Rattle.tool_drive.specs.declared.status.Verdict.TheVariants.{Near, Broken}
 use Rattle.tool_drive.specs.declared.tool.Product.{Product}
 use Rattle.tool_drive.specs.Lines.{count_line}
 use Rattle.tool_drive.specs.Refusals.{whole_fault}
-use Rattle.s2r_run.specs.RectText.{rect_text}
+use Rattle.s2r_run.specs.RectText.{rect_text, metal_text}
 use Rattle.s2r_run.specs.declared.words.S2rCommand.{S2rCommand}
 
 -- a real layer and a box on it
@@ -30,12 +30,18 @@ near_text real a b = box_text real a ++ rect_text b
 abbrev pub off_grid_text : List ℕ → Rect → List ℕ
 off_grid_text real r = codes "s2r: off grid " ++ box_text real r
 
+-- the line of two shapes that would be parted
+abbrev pub parted_text : ℕ → Rect → Rect → List ℕ
+parted_text metal a b = codes "s2r: apart " ++ metal_text metal a b
+
 -- how a refusal is told
 abbrev pub IsProcessTold : S2rCommand → ProcessError → Status → Type 0
 IsProcessTold c error.Memory s = ⊥
 IsProcessTold c (error.UnknownCell model) s = s ≡ whole_fault c.source kind.UnknownCell (scalar model ∷ [])
 IsProcessTold c (error.NotMappable model) s = s ≡ whole_fault c.source kind.Unsupported (scalar model ∷ [])
 IsProcessTold c (error.Lost word) s = s ≡ whole_fault c.source kind.Unsupported (scalar word ∷ [])
+IsProcessTold c (error.Joined metal a b) s = s ≡ status.No (Near (metal_text metal a b))
+IsProcessTold c (error.Parted metal a b) s = s ≡ status.No (Broken (parted_text metal a b))
 IsProcessTold c (error.Limit limit) s = s ≡ status.Limit limit
 IsProcessTold c (error.OffGrid real rect) s = s ≡ status.No (Broken (off_grid_text real rect))
 IsProcessTold c (error.Near real a b) s = s ≡ status.No (Near (near_text real a b))

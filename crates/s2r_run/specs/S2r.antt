@@ -1,9 +1,7 @@
 -- What `s2r` reads and answers.
 use Rattle.std.specs.Prelude.{◌≡◌, ◌⊎◌, ℕ, List, [], ◌∷◌, ◌++◌, length, get_or, codes, true, false, None, Some, Result, Ok, Err}
-use Rattle.std.specs.Fmt.{decimal}
 use Rattle.vlsi_base.specs.declared.fault.FaultKind.TheVariants as kind
 use Rattle.vlsi_base.specs.Names.{scalar}
-use Rattle.sym_geom.specs.declared.rect.Rect.{Rect}
 use Rattle.ap_io.specs.declared.figure.Figure.{Figure}
 use Rattle.ap_io.specs.ApText.{IsApText}
 use Rattle.ap_io.specs.Refusal.{IsApRefusal}
@@ -31,7 +29,7 @@ use Rattle.tool_drive.specs.declared.tool.Refusal.{Refusal}
 use Rattle.tool_drive.specs.Lines.{count_line}
 use Rattle.tool_drive.specs.Plan.{Plan, Inputs, limited, large}
 use Rattle.tool_drive.specs.Refusals.{OfFile, whole_fault}
-use Rattle.s2r_run.specs.RectText.{rect_text}
+use Rattle.s2r_run.specs.RectText.{metal_text}
 use Rattle.s2r_run.specs.TableText.{IsTableText, IsTableRefusal}
 use Rattle.s2r_run.specs.Process.{IsProcessTold, IsProcessProduct}
 
@@ -59,10 +57,6 @@ pub record AreReadOf (x : Texts) (l : Library) (f : Figure) (t : ProcessTable) :
   pub figure : IsApText x.source f
   pub process : is_process x.table ≡ true
   pub table : IsProcessText x.table t
-
--- the metal and the two rectangles of shapes that grow too near each other
-abbrev pub near_text : ℕ → Rect → Rect → List ℕ
-near_text metal a b = decimal metal ++ (rect_text a ++ rect_text b)
 
 -- The layout has a real one, whose CIF file is NAME.cif; the number of its boxes is printed, without the cuts.
 pub record IsMadeReal (c : S2rCommand) (x : Texts) (p : Product) : Type 0 where
@@ -92,7 +86,7 @@ IsToldOf c error.Memory s = ⊥
 IsToldOf c (error.UnknownCell model) s = s ≡ whole_fault c.source kind.UnknownCell (scalar model ∷ [])
 IsToldOf c (error.NotMappable model) s = s ≡ whole_fault c.source kind.Unsupported (scalar model ∷ [])
 IsToldOf c (error.Limit limit) s = s ≡ status.Limit limit
-IsToldOf c (error.Near metal a b) s = s ≡ status.No (Near (near_text metal a b))
+IsToldOf c (error.Near metal a b) s = s ≡ status.No (Near (metal_text metal a b))
 
 -- What is refused, in this order: the library, the layout, the table, and a layout that has no real one.
 pub data IsS2rRefusal (c : S2rCommand) (x : Texts) (s : Status) : Type 0 where

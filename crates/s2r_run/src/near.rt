@@ -1,8 +1,7 @@
-// How two shapes are told that grow too near each other.
+// How two shapes of a metal are told.
 ghost use Rattle.std.specs.Prelude.{◌≡◌, ◌++◌, IfOk, OnOk};
 ghost use Rattle.s2r_cif.specs.Cif.{number_text};
-ghost use Rattle.s2r_run.specs.RectText.{rect_text};
-ghost use Rattle.s2r_run.specs.S2r.{near_text as text_of_near};
+ghost use Rattle.s2r_run.specs.RectText.{metal_text as text_of_metal, rect_text};
 
 use std::alloc::{AllocError, Global};
 use sym_geom::Rect;
@@ -28,18 +27,31 @@ pub(crate) fn rectangle(alloc: Global, out: &mut FileBytes, rect: &Rect) -> Resu
     edge(alloc, out, &rect.y2)
 }
 
-/// The metal and the two rectangles.
-pub(crate) fn near_text(
+/// Puts a metal and two rectangles of shapes on it behind what is there.
+pub(crate) fn put_metal(
+    alloc: Global,
+    out: &mut FileBytes,
+    metal: u8,
+    a: &Rect,
+    b: &Rect,
+) -> Result<(), AllocError>
+    ensures { OnOk result (out.new ≡ out.old ++ text_of_metal metal a.now b.now) }
+{
+    push_number(alloc, out, u64::from(metal))?;
+    rectangle(alloc, out, a)?;
+    rectangle(alloc, out, b)
+}
+
+/// A metal and two rectangles of shapes on it.
+pub(crate) fn metal_text(
     alloc: Global,
     metal: u8,
     a: &Rect,
     b: &Rect,
 ) -> Result<FileBytes, AllocError>
-    ensures { IfOk result (λ text. text ≡ text_of_near metal a.now b.now) }
+    ensures { IfOk result (λ text. text ≡ text_of_metal metal a.now b.now) }
 {
     let mut text = FileBytes::new(Vec::new(alloc));
-    push_number(alloc, &mut text, u64::from(metal))?;
-    rectangle(alloc, &mut text, a)?;
-    rectangle(alloc, &mut text, b)?;
+    put_metal(alloc, &mut text, metal, a, b)?;
     Ok(text)
 }

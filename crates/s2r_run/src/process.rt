@@ -8,10 +8,13 @@ ghost use Rattle.ap_io.specs.ApText.{IsApText};
 ghost use Rattle.cell_lib.specs.Library.{IsLibraryOf};
 ghost use Rattle.tool_drive.specs.Table.{IsJudged};
 ghost use Rattle.real_table.specs.Process.{is_process};
+ghost use Rattle.tool_drive.specs.declared.status.Status.TheVariants as status;
+ghost use Rattle.tool_drive.specs.declared.status.Verdict.TheVariants.{Broken, Near};
+ghost use Rattle.s2r_run.specs.RectText.{metal_text as text_of_metal};
 ghost use Rattle.s2r_run.specs.S2r.{Makes, texts};
-ghost use Rattle.s2r_run.specs.Process.{IsProcessProduct, IsProcessTold, near_text as text_of_near, off_grid_text as text_of_off_grid, box_text};
+ghost use Rattle.s2r_run.specs.Process.{IsProcessProduct, IsProcessTold, near_text as text_of_near, off_grid_text as text_of_off_grid, parted_text as text_of_parted, box_text};
 
-use crate::near::rectangle;
+use crate::near::{metal_text, put_metal, rectangle};
 use crate::words::S2rCommand;
 use ap_io::Figure;
 use cell_checks::Library;
@@ -51,6 +54,55 @@ fn off_grid_text(alloc: Global, real: &Text, rect: &Rect) -> Result<FileBytes, A
     Ok(text)
 }
 
+/// The line of two shapes that would be parted.
+fn parted_text(alloc: Global, metal: u8, a: &Rect, b: &Rect) -> Result<FileBytes, AllocError>
+    ensures { IfOk result (λ text. text ≡ text_of_parted metal a.now b.now) }
+{
+    let mut text = FileBytes::from_bytes(alloc, b"s2r: apart ")?;
+    put_metal(alloc, &mut text, metal, a, b)?;
+    Ok(text)
+}
+
+/// How two shapes are told that would be joined.
+fn joined(alloc: Global, metal: u8, a: &Rect, b: &Rect) -> Status
+    ensures { MemoryOr result (result ≡ status.No (Near (text_of_metal metal a.now b.now))) }
+{
+    match metal_text(alloc, metal, a, b) {
+        Ok(text) => Status::No(Verdict::Near(text)),
+        Err(_) => Status::Memory,
+    }
+}
+
+/// How two shapes are told that would be parted.
+fn parted(alloc: Global, metal: u8, a: &Rect, b: &Rect) -> Status
+    ensures { MemoryOr result (result ≡ status.No (Broken (text_of_parted metal a.now b.now))) }
+{
+    match parted_text(alloc, metal, a, b) {
+        Ok(text) => Status::No(Verdict::Broken(text)),
+        Err(_) => Status::Memory,
+    }
+}
+
+/// How a box is told that doesn't fit.
+fn off_grid(alloc: Global, real: &Text, rect: &Rect) -> Status
+    ensures { MemoryOr result (result ≡ status.No (Broken (text_of_off_grid real.now rect.now))) }
+{
+    match off_grid_text(alloc, real, rect) {
+        Ok(text) => Status::No(Verdict::Broken(text)),
+        Err(_) => Status::Memory,
+    }
+}
+
+/// How two boxes are told that are too near.
+fn near(alloc: Global, real: &Text, a: &Rect, b: &Rect) -> Status
+    ensures { MemoryOr result (result ≡ status.No (Near (text_of_near real.now a.now b.now))) }
+{
+    match near_text(alloc, real, a, b) {
+        Ok(text) => Status::No(Verdict::Near(text)),
+        Err(_) => Status::Memory,
+    }
+}
+
 /// How a refusal is told.
 fn process_status(alloc: Global, command: &S2rCommand, error: ProcessError) -> Status
     ensures { MemoryOr result (IsProcessTold command.now error result) }
@@ -64,15 +116,11 @@ fn process_status(alloc: Global, command: &S2rCommand, error: ProcessError) -> S
             FaultKind::Unsupported,
             Name::scalar(word),
         ),
+        ProcessError::Joined { metal, a, b } => joined(alloc, metal, &a, &b),
+        ProcessError::Parted { metal, a, b } => parted(alloc, metal, &a, &b),
         ProcessError::Limit(limit) => Status::Limit(limit),
-        ProcessError::OffGrid { real, rect } => match off_grid_text(alloc, &real, &rect) {
-            Ok(line) => Status::No(Verdict::Broken(line)),
-            Err(_) => Status::Memory,
-        },
-        ProcessError::Near { real, a, b } => match near_text(alloc, &real, &a, &b) {
-            Ok(text) => Status::No(Verdict::Near(text)),
-            Err(_) => Status::Memory,
-        },
+        ProcessError::OffGrid { real, rect } => off_grid(alloc, &real, &rect),
+        ProcessError::Near { real, a, b } => near(alloc, &real, &a, &b),
     }
 }
 

@@ -9,7 +9,7 @@ ghost use Rattle.tool_drive.specs.Table.{IsJudged};
 ghost use Rattle.s2r_cif.specs.Real.{IsRealLayout};
 ghost use Rattle.s2r_run.specs.S2r.{IsProductOf, IsToldOf, Makes, texts};
 
-use crate::near::near_text;
+use crate::near::metal_text;
 use crate::process::made_process;
 use crate::reader::read_table;
 use crate::words::S2rCommand;
@@ -39,7 +39,7 @@ fn real_status(alloc: Global, command: &S2rCommand, error: RealError) -> Status
             Name::scalar(model),
         ),
         RealError::Limit(limit) => Status::Limit(limit),
-        RealError::Near { metal, a, b } => match near_text(alloc, metal, &a, &b) {
+        RealError::Near { metal, a, b } => match metal_text(alloc, metal, &a, &b) {
             Ok(text) => Status::No(Verdict::Near(text)),
             Err(_) => Status::Memory,
         },
@@ -118,9 +118,10 @@ fn made(
 /// by `Source` of TABLE; by `Source` of `UnknownCell`, at the first instance of a cell that the library hasn't; by `Source` of
 /// `Unsupported`, at the first instance of a cell that isn't mappable; by `Limit` of `Size`, where there are 2^32 or more shapes. By a
 /// plain table the last is `Near`, at the first two shapes of one metal that don't touch, but whose boxes would. By a table of a process
-/// there come `Source` of `Unsupported`, at the first layer or contact whose metal would be lost; `Limit` of `Size`, where there are
-/// 2^32 or more boxes; `Broken`, at the first box that is off the grid or has no area; and `Near`, at the first two boxes that are nearer
-/// than the table says. Memory goes by the files, the shapes of the layout, its boxes and those of its pairs that are too near.
+/// there come `Source` of `Unsupported`, at the first layer or contact whose metal would be lost; `Near`, at the first two shapes of one
+/// metal that don't touch, but whose boxes would; `Broken`, at the first two that touch, and whose boxes wouldn't; `Limit` of `Size`,
+/// where there are 2^32 or more boxes; `Broken`, at the first box that is off the grid or has no area; and `Near`, at the first two boxes
+/// that are nearer than the table says. Memory goes by the files, the shapes of the layout, its boxes and those of its pairs that are too near.
 impl LibraryTool for S2rCommand {
     ghost use Rattle.std.specs.Prelude.{refl, [], ◌∷◌};
     ghost use Rattle.tool_drive.specs.Plan.{limited, large};

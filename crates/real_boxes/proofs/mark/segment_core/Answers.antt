@@ -1,4 +1,4 @@
-use Rattle.std.proofs.Common.{◌∙◌, sym, subst, ap}
+use Rattle.std.proofs.Common.{◌∙◌, sym, subst}
 use Rattle.sym_geom.specs.declared.rect.Rect.{Rect}
 use Rattle.cougar_extract.specs.Stages.{HasCellEdges}
 use Rattle.real_boxes.specs.Marks.{shortened}
