@@ -29,7 +29,7 @@ pub(crate) struct Measure {
 }
 
 /// How many inputs and registers there are: the number of the first node of the machine's graph.
-pub fn held_count(machine: &Machine) -> u32
+fn held_count(machine: &Machine) -> u32
     requires { IsNumberable machine.now }
     ensures { result ≡ held_of machine.now }
 {
@@ -62,7 +62,7 @@ fn measure_of(
 }
 
 /// The part of a machine's graph that its outputs and registers need. Takes memory for the graph and the part.
-pub fn needed_part(alloc: Global, machine: &Machine) -> Result<NeededPart, AllocError>
+fn needed_part(alloc: Global, machine: &Machine) -> Result<NeededPart, AllocError>
     requires { IsNumberable machine.now }
     ensures part { IfOk result (λ p. IsPartOf machine.now p) }
     ensures earlier { IfOk result (λ p. EachReadsEarlier (held_of machine.now) p.nodes) }
