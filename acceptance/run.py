@@ -9,9 +9,10 @@ for a probe that isn't there is skipped with a line. Run are the cases of crates
 again with a folder in the place of every file that it reads or writes, with that file missing, and with a full output; each tool where
 something of the machine fails (tools/real_faults.py); the second readers on the same cases; and then the texts that each tool's module makes.
 Each language has one second reader, written from docs/FORMATS.md in this language; nothing that a program printed is wanted of it. What the
-documents name is looked up too, by bench/claims.py, and bench/headline.py has to write docs/HEADLINE.md as it stands. The commands of README,
+documents name is looked up too, by bench/claims.py, and bench/headline.py has to write the headline's pages as they stand. The commands of README,
 TOUR and other pages are run and compared with what the pages show, and the programs of share/ are tried. The row library is looked at
-below metal 1, and where Magic and Netgen are installed, so is the real layout of a counter.
+below metal 1, and where Magic and Netgen are installed, so is the real layout of a counter. No layout of the circuits of bench/baseline.py may
+have become worse.
 
 --many makes ten times as many random texts. What can't be run on this machine is skipped with a line. The last line is
 `N passed, N failed, N skipped`.
@@ -25,11 +26,11 @@ from multiprocessing import Pool
 
 sys.path[0] = str(pathlib.Path(__file__).resolve().parent.parent)
 from acceptance import cells, moves  # noqa: E402
-from acceptance.running import below_metal, documents, front  # noqa: E402
+from acceptance.running import baseline, below_metal, documents, front  # noqa: E402
 from acceptance.running.case_file import case_files  # noqa: E402
 from acceptance.running.cases import check_case  # noqa: E402
 from acceptance.running.results import Results  # noqa: E402
-from acceptance.shared import brought, explained, installed, layouts, liberty, pages, pictures, programs, real_layers, rechecks  # noqa: E402
+from acceptance.shared import brought, course, explained, installed, layouts, liberty, pages, pictures, programs, real_layers, rechecks  # noqa: E402
 from acceptance.tools import cut_files, real_faults  # noqa: E402
 from acceptance.tools.table import TOOLS  # noqa: E402
 
@@ -39,10 +40,12 @@ MOST_SHOWN = 40
 def jobs_of(program, probe, cell_probe, maze_probe, seed, times):
     """Functions with what they are given behind the results, the longest first."""
     yield documents.check, ()
+    yield from baseline.jobs(program)
     yield from pages.jobs(program)
     yield from programs.jobs(program)
     yield from pictures.jobs()
     yield from brought.jobs(program)
+    yield from course.jobs(program)
     yield from explained.jobs(program)
     yield from liberty.jobs()
     yield from installed.jobs(program)

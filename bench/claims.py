@@ -208,7 +208,7 @@ def crates_told(tree):
 
 def main():
     tree = Tree()
-    found = [(page, fault) for page in PAGES if not page.name.startswith("HEADLINE") for fault in missing(tree, page)]
+    found = [(page, fault) for page in PAGES if not page.name.startswith("HEADLINE-") for fault in missing(tree, page)]
     proved = TOP / "docs/PROVED.md"
     for cells in rows(proved):
         if len(cells) == 3 and FUNCTION.search(cells[1]):

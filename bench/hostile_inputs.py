@@ -65,8 +65,18 @@ def marks_of_one_point(n):
     return layout(f"R 0,0,ref_ref,r{k}" for k in range(n))
 
 
-def with_table(make):
-    return lambda n: {**make(n), "t.real": b"scale 2\ngrow 10 10 10 10 10 10\n"}
+def near_in_pairs(n):
+    """Half lie on each other, and the other half on each other beside them, nearer than the gap: each of these is too near to each of those."""
+    return layout(f"S 1000,{1000 + 300 * (k % 2)},9000,{1000 + 300 * (k % 2)},200,*,RIGHT,ALU2" for k in range(n))
+
+
+def apart_beside_another_metal(n):
+    """Lines of metal 2 that don't touch, and one of metal 6."""
+    return layout([*(f"S 0,{600 * k},9000,{600 * k},200,*,RIGHT,ALU2" for k in range(n)), "S 0,0,9000,0,200,*,RIGHT,ALU6"])
+
+
+def with_table(make, grow="10 10 10 10 10 10"):
+    return lambda n: {**make(n), "t.real": f"scale 2\ngrow {grow}\n".encode()}
 
 
 def with_port(make):
@@ -91,6 +101,12 @@ def inverter(name, i, nq):
 def one_net(n):
     """One net that n pins read."""
     return netlist([f"n{k}" for k in range(n - 1)], [inverter("g0", "a", "y"), *(inverter(f"g{k + 1}", "y", f"n{k}") for k in range(n - 1))])
+
+
+def inverters(n):
+    """Inverters beside each other, each between two ports of its own: the pins of many are beset by the wires of others."""
+    ports = "; ".join(f"i{k} : in bit; o{k} : out bit" for k in range(n))
+    return netlist([], [inverter(f"g{k}", f"i{k}", f"o{k}") for k in range(n)], ports)
 
 
 def inverter_chain(n):
@@ -246,6 +262,11 @@ def counters(n):
     return {"s.fsm": fmi.counter(n)}
 
 
+def unread_inputs(n):
+    """The chain of 256 states, with n inputs that no statement reads."""
+    return {"s.fsm": fmi.counter(256).replace(b"i : in bit;", f"i : in bit; v : in bit_vector ({n - 1} downto 0);".encode(), 1)}
+
+
 def read_vectors(n):
     """64 states, each of which leads to the next one under the last of n vectors."""
     inputs = n.bit_length() - 1
@@ -299,10 +320,11 @@ FAMILIES = {
     **{f"druc, {name}": ("druc s.ap -l lib", SHAPES, make) for name, make in {
         "wires on each other": on_each_other, "wires in each other": in_each_other, "wires in a chain": in_a_chain, "wires across": crossing,
         "wires one over another": one_over_another, "wires on each other and one near": on_each_other_and_near,
-        "wires too near": nearly_touching, "instances on each other": instances_on_each_other}.items()},
+        "wires too near": nearly_touching, "wires too near, each to half of all": near_in_pairs, "instances on each other": instances_on_each_other}.items()},
     **{f"s2r, {name}": (f"s2r s.ap -p t.real {OUT}", SHAPES, with_table(make)) for name, make in {
         "wires on each other": on_each_other, "wires in each other": in_each_other, "wires one over another": one_over_another,
         "wires in a chain": in_a_chain}.items()},
+    "s2r, wires apart, and another metal grows": (f"s2r s.ap -p t.real {OUT}", SHAPES, with_table(apart_beside_another_metal, "0 0 0 0 0 1000000")),
     **{f"cougar, {name}": (f"cougar s.ap {OUT}", SHAPES, with_port(make)) for name, make in {
         "wires on each other": on_each_other, "wires in a chain": in_a_chain, "wires across": crossing, "instances on each other": instances_on_each_other,
         "connectors of one port": ports_of_one_name, "marks": marks_of_one_point}.items()},
@@ -310,6 +332,8 @@ FAMILIES = {
     **{f"{tool}, a chain of gates": (f"{tool} s.vst {OUT}", PINS, inverter_chain) for tool in ("loon", "ocp", "flatbeh")},
     **{f"{tool}, {name}": (f"ocp s.vst -l lib -o p --moves 0 && {tool} s.vst -p p.ap {OUT}", doubled(250, 2000), make)
        for tool in ("nero", "rip") for name, make in {"one net": one_net, "a chain of gates": inverter_chain}.items()},
+    "rip, many ports on four metals":
+        (f"ocp s.vst -l lib -o p --moves 0 --rows 1 && rip s.vst -p p.ap {OUT} --metals 4 --rips 100", doubled(100, 1600), inverters),
     "scapin, flip-flops in a row": (f"scapin s.vst -p s.path {OUT}", PINS, shift_register),
     "scapin, a chain of gates": (f"scapin s.vst -p s.path {OUT}", PINS, with_blank_path(inverter_chain)),
     "flatbeh, a chain backwards": (f"flatbeh s.vst {OUT}", PINS, backward_chain),
@@ -342,6 +366,7 @@ FAMILIES = {
     "syf, vectors": ("syf s.fsm -o n", doubled(125, 1000), vectors),
     "syf, deep ifs": ("syf s.fsm -o n", doubled(16, 128), deep_ifs),
     "fmi, states in a chain": ("fmi s.fsm -o n", doubled(32, 256), counters),
+    "fmi, inputs that nothing reads": ("fmi s.fsm -o n", doubled(500, 4000), unread_inputs),
     "fmi, vectors": ("fmi s.fsm -o n", doubled(64, 4096), read_vectors),
     "fmi, outputs of 64 states": ("fmi s.fsm -o n", doubled(500, 4000), outputs),
     "fmi, outputs under 4,096 vectors": ("fmi s.fsm -o n", doubled(48, 384), shown_inputs),

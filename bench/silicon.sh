@@ -4,7 +4,8 @@
 #
 # Usage: bench/silicon.sh PROGRAM [SOURCE..]
 #
-# The sources are the examples, circuits as courses have them and an ALU of 16 bits where none is said.
+# The sources are the examples, circuits as courses have them and an ALU of 16 bits where none is said. One in Verilog or VHDL, as those of
+# examples/course, goes through `share/synth` before; its file is called like its module or entity.
 #
 # PROCESSES in the environment is another list than scn6m_subm,scn4m_subm,scn3me_subm; KINDS another than cells,rows,blocks; LIBRARY another
 # folder of cells than cells/, with cells of the same names.

@@ -10,7 +10,7 @@ usage line says: DIR is a folder, `a|b` are choices, numbers are yours, and all 
 import re
 import subprocess
 import sys
-from typing import NamedTuple
+from typing import NamedTuple, Optional
 
 SECONDS = 100
 BASH = """# Completion of alliance for bash, made of its usage lines.
@@ -51,7 +51,7 @@ class Option(NamedTuple):
     """The word of an option, and what its value is: None where it has none, else the text of the usage line."""
 
     word: str
-    value: str | None
+    value: Optional[str]
 
 
 class Tool(NamedTuple):

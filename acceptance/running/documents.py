@@ -7,7 +7,7 @@ from acceptance.running.places import BENCH
 
 CHECKS = [
     ("what the documents name is there", ["claims.py"]),
-    ("docs/HEADLINE.md is up to date", ["headline.py", "--check"]),
+    ("the pages of the headline are up to date", ["headline.py", "--check"]),
 ]
 
 

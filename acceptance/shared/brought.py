@@ -1,5 +1,5 @@
-"""share/import and share/synth: netlists with answers by hand, each refusal, and the circuits of examples/course in both languages up to a
-layout, where yosys, Icarus Verilog and GHDL are installed."""
+"""share/import and share/synth: netlists with answers by hand, each refusal, and netlists that yosys maps, where yosys, Icarus Verilog and GHDL are
+installed. The circuits of examples/course are in course.py."""
 
 import os
 import re
@@ -306,21 +306,6 @@ def check_vhdl_refusals(results):
             results.note(f"synth refuses VHDL: {cause}", is_refused(got, "synth: ", cause), str(got))
 
 
-def check_course(results, program, path):
-    """A circuit is made a source, which shows what the circuit shows, and laid out."""
-    lacks = missing("yosys", "iverilog" if path.suffix == ".v" else "ghdl")
-    if lacks:
-        results.skip(f"{lacks} isn't installed")
-        return
-    with Room() as room:
-        got = ran(room, "synth", path.stem, path, "-o", "m", "--sync-reset")
-        counted = re.search(r"^compared 256 vectors, (\d+) of (\d+) bits$", got[1], re.M)
-        is_well = got[0] == 0 and counted and int(counted[1]) * 20 > int(counted[2]) * 19
-        results.note(f"synth makes a source of {path.name}", is_well, str(got))
-        laid = room.run(program, ["flow", "m.vbe", "-l", str(CELLS), "-o", "m"])
-        results.note(f"flow lays {path.name} out", laid[0] == 0 and b"\naccepted\n" in laid[1], str(laid)[:500])
-
-
 def check_mapped(results, program):
     """A netlist that yosys maps to the row library comes in, and shows what its design shows in Icarus Verilog."""
     lacks = missing("yosys", "iverilog")
@@ -355,20 +340,10 @@ def check_against_design(results, room, name):
         results.note(f"{name} of yosys shows what its design does", False, str(trouble))
 
 
-def check_both(results):
-    """Each circuit stands in both languages, and in the table of the page."""
-    page = (COURSE / "README.md").read_text()
-    names = {path.stem for path in COURSE.glob("*.v")}
-    results.note("circuits in both languages", names == {path.stem for path in COURSE.glob("*.vhd")} and 12 <= len(names) <= 20, str(sorted(names)))
-    results.note("the circuits of the page", set(re.findall(r"^\| `(\w+)` ", page, re.M)) == names, page[:300])
-
-
 def jobs(program):
-    for path in sorted([*COURSE.glob("*.v"), *COURSE.glob("*.vhd")]):
-        yield check_course, (program, path)
     yield check_long, (program,)
     yield check_forms, (program,)
     yield check_mapped, (program,)
     yield check_names, (program,)
     yield from ((check_cells, (program, name)) for name in ("counter/cnt4.vbe", "alu/alu8.vbe"))
-    yield from ((check, ()) for check in (check_refusals, check_joined, check_synth_words, check_synth_refusals, check_vhdl_refusals, check_both))
+    yield from ((check, ()) for check in (check_refusals, check_joined, check_synth_words, check_synth_refusals, check_vhdl_refusals))

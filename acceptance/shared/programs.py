@@ -1,17 +1,19 @@
 """The programs of share/ over what the built program writes: waves, netlist, paths, registers, vhdl, draw and stats of a layout."""
 
+import ast
 import re
 import shutil
 import subprocess
 
 from acceptance.meaning import verilog
-from acceptance.running.places import CELLS, EXAMPLES, SHARE
+from acceptance.running.places import CELLS, EXAMPLES, SHARE, TOP
 from acceptance.running.results import Room
 from acceptance.shared.pictures import ran
 from share.formats.pat_oracle import UNITS, PatternReader, bits_of
 
 SECONDS = 600
 SOURCES = ["counter/cnt4", "adder/add4", "alu/alu8", "lock/lock"]
+OLDEST = (3, 9)  # the Python that docs/share/README.md asks for
 WITH_REGISTERS = ["counter/cnt4.vbe", "lock/lock.vbe", "lock/lock.fsm"]
 
 
@@ -216,7 +218,23 @@ def check_registers(results, program, name):
             results.note(f"the layout of {name} with two registers exchanged", status == 11 and printed.startswith(b"differs "), f"{status} {printed} {err}")
 
 
+# ---- the language
+
+
+def check_language(results):
+    """What users run is in the Python that the page asks for: no newer syntax, and no `X | None` as a type, which older ones can't compute."""
+    paths = [path for folder in (SHARE, TOP / "install") for path in sorted(folder.rglob("*")) if path.suffix in ("", ".py") and path.is_file()]
+    for path in paths:
+        text = path.read_text()
+        if path.suffix or text.startswith("#!/usr/bin/env python3"):
+            tree = ast.parse(text, str(path), feature_version=OLDEST)
+            types = [node.annotation for node in ast.walk(tree) if isinstance(node, (ast.AnnAssign, ast.arg)) and node.annotation]
+            newer = [kind.lineno for kind in types if any(isinstance(part, ast.BinOp) for part in ast.walk(kind))]
+            results.note(f"{path.relative_to(TOP)} in Python {OLDEST[0]}.{OLDEST[1]}", not newer, f"lines {newer}")
+
+
 def jobs(program):
+    yield check_language, ()
     yield from ((check_registers, (program, name)) for name in WITH_REGISTERS)
     yield check_delays, (program,)
     yield check_graph, (program,)

@@ -10,6 +10,8 @@ from acceptance.running.results import Room
 from acceptance.shared.pictures import CHECKING, ran
 from acceptance.shared.programs import tool
 from acceptance.tools.boom import adder, multiplier
+from share.formats import equal, vbe_oracle
+from share.formats.equal import Function
 
 SAME, WRONG, TROUBLE = 0, 1, 2
 
@@ -100,15 +102,56 @@ def check_flow(results, program, source, words):
 def check_ways(results, program):
     """All values, diagrams and vectors: each finds a function that differs, and says so."""
     with Room() as room:
-        room.write({"m.vbe": multiplier(4), "a.vbe": adder(12, True)})
-        for name, words, way in (("m", [], "by all values 8"), ("a", [], "by diagrams 4"), ("a", ["--nodes", "5"], "by vectors 4")):
+        room.write({"m.vbe": multiplier(4), "a.vbe": adder(16, True)})
+        for name in "ma":
             tool(room, program, "flow", f"{name}.vbe", "-l", CELLS, "-o", name, "--tracks")
+        of_few, of_all = ["--nodes", "5"], ["--steps", "0"]
+        for name, words, way in (("m", [], "all values 8"), ("a", [], "diagrams 3"), ("a", of_few, "vectors 3"), ("m", of_all, "vectors 8")):
             status, out, err = ran("recheck", room.folder / f"{name}.vbe", room.folder / f"{name}.ap", CELLS, *words)
-            results.note(f"recheck {way}", status == SAME and way in out, out + err)
+            results.note(f"recheck by {way}", status == SAME and f"by {way}\n" in out, out + err)
             text = (room.folder / f"{name}.vbe").read_text()
             (room.folder / "x.vbe").write_text(text.replace(" and ", " or ", 1))
             status, out, err = ran("recheck", room.folder / "x.vbe", room.folder / f"{name}.ap", CELLS, *words)
-            results.note(f"recheck {way} of another source", status == WRONG and " differs where " in verdict(out), out + err)
+            results.note(f"recheck by {way} of another source", status == WRONG and " differs where " in verdict(out), out + err)
+
+
+def check_long(results, program):
+    """A product of 16 bits, whose diagrams are too large: the steps of all functions are bounded. And a state with one `if` after the other, whose
+    outputs have very many ways through it."""
+    machine = vbe_oracle.machine(multiplier(16))
+    budget, equations = equal.Budget(1000, 200000), dict(machine.equations)
+    products = [Function(equations[bit], equations) for bit in sorted(machine.ports) if bit in equations]
+    ways = [equal.compared(product, product, equal.TRUE, budget) for product in products]
+    by_vectors = [answer for answer in ways if answer.way == equal.VECTORS]
+    is_well = len(ways) == 32 and len(by_vectors) > 16 and 0 <= budget.steps < 200000 and not any(answer.values for answer in ways)
+    results.note("a product of 16 bits in bounded steps", is_well, f"{budget.steps} {[answer.way for answer in ways]}")
+    with Room() as room:
+        room.write({"s.fsm": many_ifs(40).encode()})
+        tool(room, program, "flow", "s.fsm", "-l", CELLS, "-o", "s", "--tracks")
+        status, out, err = ran("recheck", room.folder / "s.fsm", room.folder / "s.ap", CELLS)
+        results.note("recheck of a state with 40 times `if`", status == SAME and "functions 83\n" in out and "by vectors 0\n" in out, out + err)
+
+
+def many_ifs(count):
+    """A machine of two states, one of which shows its inputs one by one."""
+    bits = f"bit_vector ({count - 1} downto 0)"
+    first = "".join(f"y({k}) <= '0';\n" for k in range(count))
+    shown = "".join(f"if a({k}) = '1' then y({k}) <= '1'; end if;\n" for k in range(count))
+    return f"""entity s is port (ck, rst : in bit; a : in {bits}; y : out {bits}; vdd : in bit; vss : in bit); end s;
+architecture states of s is
+type st is (s0, s1); signal cs, ns : st;
+-- pragma CURRENT_STATE cs
+-- pragma NEXT_STATE ns
+-- pragma CLOCK ck
+begin
+process (cs, rst, a) begin
+{first}ns <= s0;
+case cs is when s0 => ns <= s1; {shown}when s1 => ns <= s0; end case;
+if rst = '1' then ns <= s0; end if;
+end process;
+process (ck) begin if ck = '1' and not ck'stable then cs <= ns; end if; end process;
+end states;
+"""
 
 
 def judged(room, program):
@@ -143,4 +186,5 @@ def jobs(program):
     for words in (["-e", "o"], ["-e", "j"], ["-e", "r", "--seed", "7"]):
         yield check_flow, (program, "lock/lock.fsm", words)
     yield check_ways, (program,)
+    yield check_long, (program,)
     yield from ((check_changed, (program, seed)) for seed in range(4))

@@ -1,8 +1,9 @@
-"""The circuits that are laid out: all examples, those of courses, and an ALU of 16 bits."""
+"""The circuits that are laid out: all examples, those of courses, and an ALU of 16 bits; or given ones, in Verilog and VHDL too."""
 
+import subprocess
 import sys
 
-from .program import TOP
+from .program import TOP, Refused
 
 sys.path.insert(0, str(TOP / "bench"))
 import course_circuits  # noqa: E402
@@ -19,3 +20,15 @@ def sources(folder):
         path = folder / f"{kind}{number}.{'fsm' if kind == 'machine' else 'vbe'}"
         path.write_text(course_circuits.text_of(kind, number))
         yield path
+
+
+def brought(source, folder):
+    """The path of a source for flow. One in Verilog or VHDL is synthesised into the folder, and is called uart_vhd if it was uart.vhd."""
+    if source.suffix not in (".v", ".sv", ".vhd", ".vhdl"):
+        return source
+    made = folder / f"{source.stem}_{source.suffix[1:]}.vbe"
+    words = [sys.executable, TOP / "share/synth", source.stem, source, "-o", made, "--sync-reset"]
+    done = subprocess.run(words, capture_output=True, text=True)
+    if done.returncode:
+        raise Refused(done.stderr.strip())
+    return made

@@ -119,7 +119,7 @@ def main(words):
     with tempfile.TemporaryDirectory() as work:
         look = Look(program, library, pathlib.Path(work))
         models = files.library(library)
-        chosen = [pathlib.Path(source).resolve() for source in sources] or list(circuits.sources(look.work))
+        chosen = [circuits.brought(pathlib.Path(source).resolve(), look.work) for source in sources] or list(circuits.sources(look.work))
         for process in field_tools.PROCESSES:
             if process.table not in processes:
                 continue

@@ -6,7 +6,7 @@ netlist. Either raises Refused with what `cougar` says of the layout. Figures ar
 those of models.py, by their names.
 """
 
-from typing import NamedTuple
+from typing import NamedTuple, Optional
 
 from . import cellcheck
 from .models import IN, OUT
@@ -67,8 +67,8 @@ class Shown(NamedTuple):
 
     metal: int
     box: tuple
-    owner: str | None
-    terminal: tuple | None
+    owner: Optional[str]
+    terminal: Optional[tuple]
 
 
 class OfOne:

@@ -6,7 +6,7 @@ and a number goes behind it where that name is taken.
 """
 
 import re
-from typing import NamedTuple
+from typing import NamedTuple, Optional
 
 from .vhdl_reader import IDENT, NUMBER, RESERVED, SUPPLIES
 
@@ -60,7 +60,7 @@ class Symbol(NamedTuple):
     """A name that is declared, with the bits that it has; none for a scalar."""
 
     name: str
-    bits: range | None
+    bits: Optional[range]
 
     def spelled(self, bit):
         return self.name if self.bits is None else f"{self.name}({bit})"

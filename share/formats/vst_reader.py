@@ -1,6 +1,6 @@
 """The grammar of structural texts, for the second reader, written from docs/formats/netlists.md."""
 
-from typing import NamedTuple
+from typing import NamedTuple, Optional, Union
 
 from .vhdl_reader import Reader, Symbol, bits_of, fault
 
@@ -27,10 +27,10 @@ class Association(NamedTuple):
 
     pin_line: int
     pin: str
-    bit: int | None
+    bit: Optional[int]
     net_line: int
     net: str
-    selection: int | tuple | None
+    selection: Union[int, tuple, None]
 
 
 class Instance(NamedTuple):

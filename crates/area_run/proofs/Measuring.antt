@@ -7,7 +7,7 @@ use Rattle.cell_model.specs.Library.{Library}
 use Rattle.cell_lib.specs.Library.{IsLibraryOf}
 use Rattle.boog_tree.specs.Trees.{tree_roots}
 use Rattle.boog_tree.specs.Sums.{total}
-use Rattle.boog_area.specs.Covers.{IsTreeCover, IsLeastArea}
+use Rattle.boog_area.specs.Covers.{IsTreeCover, AreCellBounds, IsLeastArea}
 use Rattle.boog_area.specs.declared.cover.TreeCover.{TreeCover}
 use Rattle.area_run.specs.declared.words.AreaCommand.{AreaCommand}
 use Rattle.area_run.specs.Area.{HasTrees, IsPartOf, IsNoCover, too_large, no_cell, no_cover, Measures}
@@ -17,8 +17,9 @@ use Rattle.tool_drive.specs.Refusals.{MemoryOr, judged}
 
 -- a cover's numbers are those of the machine's trees
 pub cover_measures : (l : Library) (m : Machine) (part : Graph) (t : TreeCover) (held trees area : ℕ) → IsPartOf m part → held ≡ held_count m → IsTreeCover l held part t
-    → trees ≡ length t.cover.trees.items → area ≡ total (slice_index t.cover.bounds.items) t.cover.trees.items → HasTrees l m trees area
-cover_measures l m part t held trees area is_part is_held cover is_trees is_area =
+    → AreCellBounds l held part t.cover.bounds.items → trees ≡ length t.cover.trees.items
+    → area ≡ total (slice_index t.cover.bounds.items) t.cover.trees.items → HasTrees l m trees area
+cover_measures l m part t held trees area is_part is_held cover checked is_trees is_area =
     let here : IsTreeCover l (held_count m) part t = subst (λ (n : ℕ). IsTreeCover l n part t) is_held cover in
     let sum : area ≡ total (slice_index t.cover.bounds.items) (tree_roots (held_count m) part) =
     is_area ∙ ap (λ (xs : List ℕ). total (slice_index t.cover.bounds.items) xs) here.trees in
@@ -26,6 +27,9 @@ cover_measures l m part t held trees area is_part is_held cover is_trees is_area
       part = part;
       is_part = is_part;
       count = is_trees ∙ ap (λ (xs : List ℕ). length xs) here.trees;
+      bounds = t.cover.bounds.items;
+      checked = subst (λ (n : ℕ). AreCellBounds l n part t.cover.bounds.items) is_held checked;
+      sum = sum;
       least = subst (λ (n : ℕ). IsLeastArea l (held_count m) part n) (sym sum) here.least;
     }
 

@@ -13,7 +13,7 @@ use Rattle.graph_theory.specs.Graph.{Graph, held_count}
 use Rattle.subject_graph.specs.Subject.{IsSubjectGraph}
 use Rattle.boog_part.specs.Part.{IsNeededPart}
 use Rattle.boog_tree.specs.Trees.{tree_roots}
-use Rattle.boog_area.specs.Covers.{IsLeastArea}
+use Rattle.boog_area.specs.Covers.{AreCellBounds, root_sum, IsLeastArea}
 use Rattle.boog_area.specs.Refused.{tree_kinds, CoversTrees}
 use Rattle.area_run.specs.declared.words.AreaCommand.{AreaCommand}
 use Rattle.tool_drive.specs.declared.status.Status.{Status}
@@ -40,11 +40,15 @@ pub record IsPartOf (m : Machine) (part : Graph) : Type 0 where
   pub subject : IsSubjectGraph m graph
   pub needed : IsNeededPart (held_count m) graph part
 
--- This part has so many trees, and all covers of them by usable cells of the library have at least this area, which some have.
+-- This part has so many trees, and all covers of them by usable cells of the library have at least this area, which some have. It is the sum of
+-- the roots' bounds, and these show it by themselves: none is above what a match at its gate comes to.
 pub record HasTrees (l : Library) (m : Machine) (trees area : ℕ) : Type 0 where
   pub part : Graph
   pub is_part : IsPartOf m part
   pub count : trees ≡ length (tree_roots (held_count m) part)
+  pub bounds : List ℕ
+  pub checked : AreCellBounds l (held_count m) part bounds
+  pub sum : area ≡ root_sum (held_count m) part bounds
   pub least : IsLeastArea l (held_count m) part area
 
 -- Library and source are read, the library has a usable inverter and nand of two inputs, and the number of trees and their least area are

@@ -8,4 +8,5 @@ mod area;
 mod measure;
 mod words;
 
+pub use measure::{held_count, needed_part};
 pub use words::{AREA_ENTRY, AreaCommand};

@@ -2,5 +2,6 @@ pub mod Choosing
 pub mod Standing
 pub mod Pruning
 pub mod Having
+pub mod Narrowing
 pub mod Counting
 pub mod Cycles

@@ -1,5 +1,5 @@
 // A cover of a graph.
-ghost use Rattle.std.specs.Prelude.{◌≡◌, ◌⊎◌, ◌<◌, ◌≤◌, ◌+◌, ◌^◌, ℕ, List, map, length, Option, Some, None, slice_index, IfOk};
+ghost use Rattle.std.specs.Prelude.{◌≡◌, ◌⊎◌, ◌<◌, ◌≤◌, ◌+◌, ◌^◌, ℕ, List, map, length, Option, Some, None, slice_index, IfOk, IfSome};
 ghost use Rattle.graph_theory.specs.Graph.{EachReadsEarlier};
 ghost use Rattle.cell_match.specs.declared.gate.Gate.{Gate};
 ghost use Rattle.cell_match.specs.Places.{times};
@@ -12,9 +12,11 @@ ghost use Rattle.boog_tight.specs.Uses.{AreUses};
 ghost use Rattle.boog_cover.specs.Pruned.{IsFull, IsPruned};
 ghost use Rattle.boog_cover.specs.Covered.{HasCells, IsCoveredWith, IsCovered};
 
+use crate::lesser::{are_marked, needed_marks, replaced};
 use crate::needed::prune;
-use crate::rounds::chosen;
+use crate::rounds::{chosen, columns_of};
 use boog_cuts::{CutTable, cuts};
+use boog_resub::steps;
 use boog_tight::{count_on, tighten};
 use cell_match::{CellWord, Gate, Table};
 use std::alloc::{AllocError, Global};
@@ -126,6 +128,47 @@ fn covered<const K: usize>(
     tightened(alloc, cells, table, gates, held as usize, roots)
 }
 
+/// A cover with other gates than `covered` gives, made narrower step by step; None where it has too many pins, or more columns than the
+/// one that was begun with. Takes memory for the cuts of each node.
+fn lesser_cover<const K: usize>(
+    alloc: Global,
+    cells: &[CellWord],
+    areas: &[u32],
+    table: &Table,
+    held: u32,
+    graph: &Graph,
+    roots: &[u32],
+) -> Result<Option<Vec<Option<Gate>>>, AllocError>
+    requires some { 2 ≤ K }
+    requires few { K ≤ 6 }
+    requires inputs { (k : ℕ) → inputs_of cells.now k ≤ 6 }
+    requires table { IsTable cells.now table.now.maps.items }
+    requires has { HasCells cells.now }
+    requires numbers { held + length graph.now.nodes + length roots.now < 2 ^ 32 }
+    requires earlier { EachReadsEarlier held graph.now.nodes }
+    requires roots { (x : ℕ) → 0 < times x roots.now → x < held + length graph.now.nodes }
+    ensures { IfOk result (λ made. IfSome made (λ gates. IsCovered cells.now held graph.now.nodes roots.now gates.items)) }
+{
+    let cuts: CutTable<K> = cuts(alloc, held, graph)?;
+    let begun = chosen(alloc, cells, areas, table, &cuts, held, graph, roots)?;
+    let before = columns_of(alloc, &begun, areas, roots)?;
+    let marks = needed_marks(alloc, held, graph, roots)?;
+    let steps = steps(alloc, cells, areas, &begun, &marks, roots)?;
+    let gates = replaced(cells, begun, held as usize, steps);
+    if columns_of(alloc, &gates, areas, roots)? > before {
+        return Ok(None);
+    }
+    let left = needed(alloc, gates, held as usize, roots)?;
+    if leaf_count(&left) > 2 * graph.nodes().len() {
+        return Ok(None);
+    }
+    if !are_marked(&left, &marks) {
+        return Ok(None);
+    }
+    let last = tightened(alloc, cells, table, left, held as usize, roots)?;
+    Ok(Some(last))
+}
+
 fn has_wide(cells: &[CellWord]) -> bool {
     cells.iter().any(|cell| cell.inputs > 4)
 }
@@ -174,6 +217,9 @@ pub fn cover(
     ensures { IfOk result (λ gates. IsCovered cells.now held graph.now.nodes roots.now gates.items) }
 {
     let table = Table::new(alloc, cells)?;
+    if let Some(gates) = lesser_cover::<4>(alloc, cells, areas, &table, held, graph, roots)? {
+        return Ok(gates);
+    }
     let gates = wide_cover(alloc, cells, areas, &table, held, graph, roots)?;
     if leaf_count(&gates) <= 2 * graph.nodes().len() {
         return Ok(gates);

@@ -4,6 +4,7 @@
 mod choice;
 mod graph_cover;
 mod law;
+mod lesser;
 mod needed;
 mod rounds;
 

@@ -8,7 +8,7 @@ ghost use Rattle.boog_cover.specs.Pruned.{IsMarked, IsFull, IsPruned};
 use cell_match::Gate;
 
 /// Marks these numbers.
-fn mark(marks: &mut [bool], numbers: &[u32])
+pub(crate) fn mark(marks: &mut [bool], numbers: &[u32])
     requires { (x : ℕ) → 0 < times x numbers.now → x < length marks.old }
     ensures { (x : ℕ) → IsMarked marks.new x ↔ (IsMarked marks.old x ⊎ (0 < times x numbers.now)) }
 {

@@ -71,6 +71,17 @@ fn area_of(gates: &[Option<Gate>], areas: &[u32], readers: &[u32]) -> u64 {
     area
 }
 
+/// The area of the gates that roots need.
+pub(crate) fn columns_of(
+    alloc: Global,
+    gates: &[Option<Gate>],
+    areas: &[u32],
+    roots: &[u32],
+) -> Result<u64, AllocError> {
+    let readers = cover_readers(alloc, gates, roots)?;
+    Ok(area_of(gates, areas, &readers))
+}
+
 /// The gates of some rounds, of which the first shares a node's cost among those that read it in the graph, and each further one among
 /// those that read it in the cover before; one in between shares none. Of all these covers the one of least area. Takes memory for them.
 pub(crate) fn chosen<const K: usize>(

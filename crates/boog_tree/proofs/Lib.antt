@@ -7,6 +7,7 @@ pub mod Roots
 pub mod Covering
 pub mod Sweeping
 pub mod Steps
+pub mod Listing
 pub mod Counting
 pub mod Placing
 pub mod Joining

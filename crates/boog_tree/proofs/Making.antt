@@ -71,10 +71,10 @@ union_of a b c d nodes p q u = record {
 unions_same : (a b one two : List ℕ) → IsUnion a b one → IsUnion a b two → AreSame one two
 unions_same a b one two u v x = (λ h. (v.members x).1 ((u.members x).0 h), λ h. (u.members x).1 ((v.members x).0 h))
 
-module _ (held : ℕ) (g : Graph) (x : ℕ) (cuts : List (Cut 6)) where
+module _ {K : ℕ} (held : ℕ) (g : Graph) (x : ℕ) (cuts : List (Cut K)) where
   pub fixed_has_none : (v : Bool) → IsNode held g x (fixed v) → cuts ≡ [] → AreTreeCuts held g x cuts
   fixed_has_none v node none = record {
-    sound = λ i c at. absurd (subst (λ (l : List (Cut 6)). IsNumber l i c) none at);
+    sound = λ i c at. absurd (subst (λ (l : List (Cut K)). IsNumber l i c) none at);
     every = λ members value cut few. elim (cut_cases held g x members value cut) [
       | inl by ↦ absurd (no_inv v by.a (node_once held g x (fixed v) (inv by.a) node by.node))
       | inr by ↦ absurd (no_nand v by.a by.b (node_once held g x (fixed v) (nand by.a by.b) node by.node))
@@ -83,14 +83,14 @@ module _ (held : ℕ) (g : Graph) (x : ℕ) (cuts : List (Cut 6)) where
 
   pub given_has_none : x < held → cuts ≡ [] → AreTreeCuts held g x cuts
   given_has_none low none = record {
-    sound = λ i c at. absurd (subst (λ (l : List (Cut 6)). IsNumber l i c) none at);
+    sound = λ i c at. absurd (subst (λ (l : List (Cut K)). IsNumber l i c) none at);
     every = λ members value cut few. elim (cut_cases held g x members value cut) [
       | inl by ↦ let is = by.node.is in absurd (omega (arith, low, is))
       | inr by ↦ let is = by.node.is in absurd (omega (arith, low, is))
     ];
   }
 
-  pub inverses_are_cuts : (a : ℕ) (list : List (Cut 6)) → IsNode held g x (inv a) → AreParts held g a list → AreInverses list cuts → AreTreeCuts held g x cuts
+  pub inverses_are_cuts : (a : ℕ) (list : List (Cut K)) → IsNode held g x (inv a) → AreParts held g a list → AreInverses list cuts → AreTreeCuts held g x cuts
   inverses_are_cuts a list node parts made = record {
     sound = λ i c at.
         let m = made.sound i c at in
@@ -112,7 +112,7 @@ module _ (held : ℕ) (g : Graph) (x : ℕ) (cuts : List (Cut 6)) where
     ];
   }
 
-  pub joined_are_cuts : (a b : ℕ) (firsts seconds : List (Cut 6)) → IsNode held g x (nand a b) → AreParts held g a firsts → AreParts held g b seconds
+  pub joined_are_cuts : (a b : ℕ) (firsts seconds : List (Cut K)) → IsNode held g x (nand a b) → AreParts held g a firsts → AreParts held g b seconds
       → AreJoined firsts seconds cuts → AreTreeCuts held g x cuts
   joined_are_cuts a b firsts seconds node parts parts_too made = record {
     sound = λ i c at.
@@ -142,14 +142,14 @@ module _ (held : ℕ) (g : Graph) (x : ℕ) (cuts : List (Cut 6)) where
   }
 
 -- behind the cuts the number itself
-module _ (held : ℕ) (g : Graph) (x : ℕ) (inner : Bool) (cuts parts : List (Cut 6)) (is_it : inner ≡ is_inner held g x)
+module _ {K : ℕ} (held : ℕ) (g : Graph) (x : ℕ) (inner : Bool) (cuts parts : List (Cut K)) (is_it : inner ≡ is_inner held g x)
     (are : inner ≡ true → AreTreeCuts held g x cuts) (has : HasItself x (if inner then cuts else []) parts) where
   listed_front : (b : Bool) (members : List ℕ) (value : (ℕ → Bool) → Bool) → b ≡ true → parts ≡ (if b then cuts else []) ++ has.own ∷ []
       → IsListed cuts members value → IsListed parts members value
   listed_front true members value e is h = record {
     place = h.place;
     cut = h.cut;
-    at = subst (λ (l : List (Cut 6)). IsNumber l h.place h.cut) (sym is) (number_front cuts (has.own ∷ []) h.place h.cut h.at);
+    at = subst (λ (l : List (Cut K)). IsNumber l h.place h.cut) (sym is) (number_front cuts (has.own ∷ []) h.place h.cut h.at);
     same = h.same;
     gives = h.gives;
   }
@@ -159,23 +159,23 @@ module _ (held : ℕ) (g : Graph) (x : ℕ) (inner : Bool) (cuts parts : List (C
   own_listed members value is gives = record {
     place = length (if inner then cuts else []);
     cut = has.own;
-    at = subst (λ (l : List (Cut 6)). IsNumber l (length (if inner then cuts else [])) has.own) (sym has.is) (at_end (if inner then cuts else []));
+    at = subst (λ (l : List (Cut K)). IsNumber l (length (if inner then cuts else [])) has.own) (sym has.is) (at_end (if inner then cuts else []));
     same = same_lists members has.own.leaves.items (is ∙ sym has.members);
     gives = λ f. has.gives f ∙ sym (gives f);
   } where
-    at_end : (l : List (Cut 6)) → IsNumber (l ++ has.own ∷ []) (length l) has.own
+    at_end : (l : List (Cut K)) → IsNumber (l ++ has.own ∷ []) (length l) has.own
     at_end [] = refl
     at_end (c ∷ l) = at_end l
 
-  sound_at : (b : Bool) → b ≡ inner → parts ≡ (if b then cuts else []) ++ has.own ∷ [] → (i : ℕ) (c : Cut 6) → IsNumber parts i c
+  sound_at : (b : Bool) → b ≡ inner → parts ≡ (if b then cuts else []) ++ has.own ∷ [] → (i : ℕ) (c : Cut K) → IsNumber parts i c
       → IsPart held g x c.leaves.items (λ f. cut_value c f)
-  sound_at true e is i c at = elim (number_end cuts has.own i c (subst (λ (l : List (Cut 6)). IsNumber l i c) is at)) [
+  sound_at true e is i c at = elim (number_end cuts has.own i c (subst (λ (l : List (Cut K)). IsNumber l i c) is at)) [
     | inl in_front ↦ opened x c.leaves.items (λ f. cut_value c f) (sym is_it ∙ sym e) ((are (sym e)).sound i c in_front)
-    | inr last ↦ itself x c.leaves.items (λ f. cut_value c f) (ap (λ (d : Cut 6). d.leaves.items) last ∙ has.members) (λ f. ap (λ (d : Cut 6). cut_value d f) last ∙ has.gives f)
+    | inr last ↦ itself x c.leaves.items (λ f. cut_value c f) (ap (λ (d : Cut K). d.leaves.items) last ∙ has.members) (λ f. ap (λ (d : Cut K). cut_value d f) last ∙ has.gives f)
   ]
-  sound_at false e is i c at = elim (number_end [] has.own i c (subst (λ (l : List (Cut 6)). IsNumber l i c) is at)) [
+  sound_at false e is i c at = elim (number_end [] has.own i c (subst (λ (l : List (Cut K)). IsNumber l i c) is at)) [
     | inl in_front ↦ absurd in_front
-    | inr last ↦ itself x c.leaves.items (λ f. cut_value c f) (ap (λ (d : Cut 6). d.leaves.items) last ∙ has.members) (λ f. ap (λ (d : Cut 6). cut_value d f) last ∙ has.gives f)
+    | inr last ↦ itself x c.leaves.items (λ f. cut_value c f) (ap (λ (d : Cut K). d.leaves.items) last ∙ has.members) (λ f. ap (λ (d : Cut K). cut_value d f) last ∙ has.gives f)
   ]
 
   pub parts_are : AreParts held g x parts
@@ -183,7 +183,7 @@ module _ (held : ℕ) (g : Graph) (x : ℕ) (inner : Bool) (cuts parts : List (C
     sound = sound_at inner refl has.is;
     every = λ members value part few. by members value part few;
   } where
-    from : (a : ℕ) (members : List ℕ) (value : (ℕ → Bool) → Bool) → a ≡ x → IsPart held g a members value → length members ≤ 6 → IsListed parts members value
+    from : (a : ℕ) (members : List ℕ) (value : (ℕ → Bool) → Bool) → a ≡ x → IsPart held g a members value → length members ≤ K → IsListed parts members value
     from a members value same (itself _ _ _ is gives) few =
         own_listed members value (is ∙ ap (λ (k : ℕ). k ∷ []) same) (λ f. gives f ∙ ap f same)
     from a members value same (opened _ _ _ within cut) few =
@@ -191,12 +191,12 @@ module _ (held : ℕ) (g : Graph) (x : ℕ) (inner : Bool) (cuts parts : List (C
         listed_front inner members value t has.is
         ((are t).every members value (subst (λ (k : ℕ). IsTreeCut held g k members value) same cut) few)
 
-    by : (members : List ℕ) (value : (ℕ → Bool) → Bool) → IsPart held g x members value → length members ≤ 6 → IsListed parts members value
+    by : (members : List ℕ) (value : (ℕ → Bool) → Bool) → IsPart held g x members value → length members ≤ K → IsListed parts members value
     by members value part few = from x members value refl part few
 
 -- no part has a member twice
-pub parts_once : (held : ℕ) (g : Graph) (x : ℕ) (list : List (Cut 6)) → AreParts held g x list → AreOnce list
+pub parts_once : {K : ℕ} (held : ℕ) (g : Graph) (x : ℕ) (list : List (Cut K)) → AreParts held g x list → AreOnce list
 parts_once held g x list parts i c at = part_once held g x c.leaves.items (λ f. cut_value c f) (parts.sound i c at)
 
-pub cuts_once : (held : ℕ) (g : Graph) (x : ℕ) (list : List (Cut 6)) → AreTreeCuts held g x list → AreOnce list
+pub cuts_once : {K : ℕ} (held : ℕ) (g : Graph) (x : ℕ) (list : List (Cut K)) → AreTreeCuts held g x list → AreOnce list
 cuts_once held g x list cuts i c at = cut_once held g x c.leaves.items (λ f. cut_value c f) (cuts.sound i c at)

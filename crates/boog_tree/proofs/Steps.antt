@@ -34,7 +34,7 @@ use Rattle.boog_tree.proofs.Sweeping.{gate_is_node, cut_is_gate, match_inv, matc
 pub record ArePartsOf (held : ℕ) (g : Graph) (b : ℕ → ℕ) (parts : List (Vec (Cut 6))) : Type 0 where
   pub are : (x : ℕ) (list : List (Cut 6)) → IsNumber (map (λ v. v.items) parts) x list → AreEnoughParts held g b x list
 
-number_last : {A : Type 0} (xs : List A) (y : A) (i : ℕ) (x : A) → IsNumber (xs ++ y ∷ []) i x → IsNumber xs i x ⊎ ((i ≡ length xs) × (x ≡ y))
+pub number_last : {A : Type 0} (xs : List A) (y : A) (i : ℕ) (x : A) → IsNumber (xs ++ y ∷ []) i x → IsNumber xs i x ⊎ ((i ≡ length xs) × (x ≡ y))
 number_last [] y zero x h = inr (refl, h)
 number_last [] y (suc i) x h = absurd h
 number_last (z ∷ xs) y zero x h = inl h
@@ -43,7 +43,7 @@ number_last (z ∷ xs) y (suc i) x h = elim (number_last xs y i x h) [
   | inr at_end ↦ inr (ap suc at_end.0, at_end.1)
 ]
 
-mapped_long : {A B : Type 0} (f : A → B) (xs : List A) → length (map f xs) ≡ length xs
+pub mapped_long : {A B : Type 0} (f : A → B) (xs : List A) → length (map f xs) ≡ length xs
 mapped_long f [] = refl
 mapped_long f (x ∷ xs) = let e = mapped_long f xs in omega arith
 

@@ -1,5 +1,5 @@
 -- What cuts within trees are made of.
-use Rattle.std.proofs.Common.{◌≡◌, ◌⊎◌, inl, inr, ℕ, ◌<◌, ◌≤◌, Bool, not, ◌&&◌, List, [], ◌∷◌, sym, subst, arith}
+use Rattle.std.proofs.Common.{◌≡◌, ◌⊎◌, inl, inr, ℕ, ◌<◌, ◌≤◌, Bool, not, ◌&&◌, List, [], ◌∷◌, length, refl, sym, subst, arith}
 use Rattle.net_theory.specs.Sources.{IsNumber}
 use Rattle.net_theory.proofs.Basics.{number_once}
 use Rattle.graph_theory.specs.Graph.{Node, inv, nand, Graph, ReadsBelow, EachReadsEarlier}
@@ -100,3 +100,27 @@ mutual
   pub part_once : (held : ℕ) (g : Graph) (a : ℕ) (members : List ℕ) (value : (ℕ → Bool) → Bool) → IsPart held g a members value → (y : ℕ) → times y members ≤ 1
   part_once held g a members value (itself _ _ _ is e) y = subst (λ (xs : List ℕ). times y xs ≤ 1) (sym is) (alone y a)
   part_once held g a members value (opened _ _ _ inner cut) y = cut_once held g a members value cut y
+
+-- a cut has a member
+itself_there : (a : ℕ) → 0 < times a (a ∷ [])
+itself_there a = elim (one_tells a a) [
+  | inl is ↦ let o = is.1 in omega arith
+  | inr isnt ↦ absurd (isnt.0 refl)
+]
+
+mutual
+  cut_member : (held : ℕ) (g : Graph) (x : ℕ) (members : List ℕ) (value : (ℕ → Bool) → Bool) → IsTreeCut held g x members value → (y : ℕ) × (0 < times y members)
+  cut_member held g x members value (of_inv _ a _ read _ n p e) = part_member held g a members read p
+  cut_member held g x members value (of_nand _ a b first second _ read read_too _ n p q u e) =
+      let h = part_member held g a first read p in (h.0, (u.members h.0).1 (inl h.1))
+
+  part_member : (held : ℕ) (g : Graph) (a : ℕ) (members : List ℕ) (value : (ℕ → Bool) → Bool) → IsPart held g a members value → (y : ℕ) × (0 < times y members)
+  part_member held g a members value (itself _ _ _ is e) = (a, subst (λ (xs : List ℕ). 0 < times a xs) (sym is) (itself_there a))
+  part_member held g a members value (opened _ _ _ inner cut) = cut_member held g a members value cut
+
+long_some : (xs : List ℕ) (y : ℕ) → 0 < times y xs → 0 < length xs
+long_some [] y some = absurd (omega (arith, some))
+long_some (x ∷ xs) y some = omega arith
+
+pub cut_some : (held : ℕ) (g : Graph) (x : ℕ) (members : List ℕ) (value : (ℕ → Bool) → Bool) → IsTreeCut held g x members value → 0 < length members
+cut_some held g x members value cut = let h = cut_member held g x members value cut in long_some members h.0 h.1

@@ -23,7 +23,7 @@ use Rattle.fmi_refine.specs.Refined.{last_level, AreLevels, IsStable, Tells}
 use Rattle.fmi_refine.proofs.Leading.{tells_numbers}
 use Rattle.fmi_min.specs.Vectors.{picked}
 use Rattle.fmi_min.specs.Table.{vectors_read, words_read, vector, step_under, IsTable}
-use Rattle.fmi_min.specs.Tests.{test_of, numbered, TellsApart, kept_at, AreAllTests}
+use Rattle.fmi_min.specs.Tests.{test_of, numbered, vectors_of_test, TellsApart, kept_at, AreAllTests}
 use Rattle.fmi_min.proofs.Listing.{made_at}
 use Rattle.fmi_min.proofs.Picking.{picked_length, seen_picked}
 use Rattle.fmi_min.proofs.Stepping.{IsUnder, outputs_under, next_under, step_below}
@@ -125,27 +125,26 @@ record IsTold (f : Fsm) (s t n : ℕ) (test : List (List Bool)) : Type 0 where
   pub vectors : All (λ i. length i ≡ length (fsm_inputs f)) test
 
 is_told : (f : Fsm) (rows : List (List Move)) (levels : List Partition) (vectors : List (List Bool)) → IsCheckedFsm f → IsTable f rows → AreRows rows
-    → vectors ≡ map (picked f.clock f.ports) (words_read f) → (s t : ℕ) (test : List (List Bool)) → s < length rows → t < length rows
-    → TellsApart rows levels vectors s t test → IsTold f s t (length levels) test
+    → vectors ≡ map (picked f.clock f.ports) (words_read f) → (s t : ℕ) (test : List ℕ) → s < length rows → t < length rows
+    → TellsApart rows levels s t test → IsTold f s t (length levels) (numbered vectors test)
 is_told f rows levels vectors checked table are e s t test l m told =
-    let numbers = told.numbers in
-    let same : test ≡ map (vector f) numbers =
-    told.is ∙ numbered_is f vectors (vectors_of rows) numbers e (vectors_are f rows checked table) (tells_numbers rows numbers s t told.tells) in
+    let same : numbered vectors test ≡ map (vector f) test =
+    numbered_is f vectors (vectors_of rows) test e (vectors_are f rows checked table) (tells_numbers rows test s t told.tells) in
     let few = told.few in
-    let count = length-map numbers (vector f) in
+    let count = length-map test (vector f) in
     subst (IsTold f s t (length levels)) (sym same) (record {
-      apart = told_runs f rows checked table are numbers s t l m told.tells;
+      apart = told_runs f rows checked table are test s t l m told.tells;
       short = omega arith;
-      vectors = all_by (λ i. length i ≡ length (fsm_inputs f)) (map (vector f) numbers)
-          (λ i inside. let made = in_map (vector f) i numbers inside in
+      vectors = all_by (λ i. length i ≡ length (fsm_inputs f)) (map (vector f) test)
+          (λ i inside. let made = in_map (vector f) i test inside in
           ap (λ (x : List Bool). length x) made.2 ∙ picked_length f (word (read_marks f) made.0) (word_length f made.0));
     })
 
 -- what is made by the last partition has the fewest states
-pub minimal : (f : Fsm) (rows : List (List Move)) (levels : List Partition) (vectors : List (List Bool)) (tests : List (List (List (List Bool))))
+pub minimal : (f : Fsm) (rows : List (List Move)) (levels : List Partition) (vectors : List (List Bool)) (tests : List (List (List ℕ)))
     → IsCheckedFsm f → IsTable f rows → AreRows rows → vectors ≡ map (picked f.clock f.ports) (words_read f)
-    → AreLevels rows levels → IsStable rows levels → AreAllTests rows levels vectors tests
-    → IsFewest f (merged_fsm f (last_level levels).state_of (last_level levels).kept) (last_level levels).state_of (test_of tests)
+    → AreLevels rows levels → IsStable rows levels → AreAllTests rows levels tests
+    → IsFewest f (merged_fsm f (last_level levels).state_of (last_level levels).kept) (last_level levels).state_of (vectors_of_test vectors tests)
 minimal f rows levels vectors tests checked table are e of stable all =
     let some = of.some in
     let last : length levels - 1 < length levels = omega arith in
@@ -153,10 +152,10 @@ minimal f rows levels vectors tests checked table are e of stable all =
     let more : length levels - 1 < length kept = of.more (length levels - 1) last in
     let numbered = of.numbered (length levels - 1) last in
     let each = all.each in
-    let told : (p q : ℕ) → p < q → q < length kept → IsTold f (nth kept p) (nth kept q) (length levels) (test_of tests p q) =
+    let told : (p q : ℕ) → p < q → q < length kept → IsTold f (nth kept p) (nth kept q) (length levels) (vectors_of_test vectors tests p q) =
     λ p q low high. is_told f rows levels vectors checked table are e (nth kept p) (nth kept q) (test_of tests p q) (numbered.own p (omega arith)).0 (numbered.own q high).0
     ((all.told q (omega arith)).told p low) in
-    fewest f (last_level levels).state_of kept (test_of tests) checked
+    fewest f (last_level levels).state_of kept (vectors_of_test vectors tests) checked
     (subst (λ (n : ℕ). IsNumbering n (last_level levels).state_of kept) table.states numbered) (closed f rows levels checked table stable) (record {
       apart = λ p q low high. (told p q low high).apart;
       short = λ p q low high. (let short = (told p q low high).short in omega arith);

@@ -14,5 +14,5 @@ mod vectors;
 
 pub use error::MinError;
 pub use minimal::{Minimal, minimise};
-pub use tests::{TestRow, Tests, Vectors};
+pub use tests::{TestRow, Tests};
 pub use vectors::MOST_INPUTS;

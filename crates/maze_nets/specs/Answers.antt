@@ -1,5 +1,6 @@
 -- What the routing of all nets answers.
 use Rattle.std.specs.Prelude.{◌≡◌, ℕ, List, ◌∷◌, ◌++◌, Some, length, reverse, slice_get}
+use Prim.Native.Nat.{suc}
 use Rattle.grid_core.specs.declared.grid.Grid.{Grid}
 use Rattle.grid_core.specs.declared.grid.Node.{Node}
 use Rattle.grid_core.specs.Routes.{NetRoutes}
@@ -16,7 +17,7 @@ pub record AreOrdered (g : Grid) (nets : List NetPoints) (routes : NetRoutes) : 
   pub sorted : IsNetOrder (half_perimeter nets) (length nets) order
   pub done : AreDone g (net_reserved nets) (net_points nets) (length nets) routes (reverse order)
 
--- they were taken in this order up to this net, whose point with this number is the one at which it got stuck
+-- they were taken in this order up to this net, which got stuck at its point with this number: its tree has just the points before it
 pub record AreStuck (g : Grid) (nets : List NetPoints) (routes : NetRoutes) (net at : ℕ) : Type 0 where
   pub earlier : List ℕ
   pub later : List ℕ
@@ -24,6 +25,7 @@ pub record AreStuck (g : Grid) (nets : List NetPoints) (routes : NetRoutes) (net
   pub point : Node
   pub numbered : slice_get (net_points nets net) at ≡ Some point
   pub stuck : IsStuckAt g (net_reserved nets) (net_points nets) (length nets) routes earlier later net point
+  pub number : suc (length stuck.tree.paths) ≡ at
 
 -- a refusal for want of a path shows where it is wanting
 abbrev pub IsRefusal : Grid → List NetPoints → RouteError → Type 0

@@ -3,7 +3,6 @@ use Rattle.std.proofs.Common.{◌≡◌, ◌≢◌, ℕ, ◌<◌, ◌⊎◌, inl
 use Rattle.std.specs.Prelude.{flat_map, slice_get}
 use Rattle.std.proofs.lemmas.Bool.{cases_eq, eq-eqb, ne_eqb}
 use Rattle.vlsi_base.specs.Member.{In, here, there}
-use Rattle.grid_core.specs.declared.grid.Grid.{Grid}
 use Rattle.grid_core.specs.declared.grid.Node.{Node}
 use Rattle.grid_core.specs.Grid.{IsPath, LeadsBack}
 use Rattle.grid_core.specs.Routes.{Tree, NetRoutes, tree_nodes}
@@ -12,13 +11,10 @@ use Rattle.grid_core.proofs.Growing.{routes_begin, routes_grow, path_either}
 use Rattle.grid_core.proofs.Lists.{In_either}
 use Rattle.grid_core.proofs.Owners.{first_or}
 use Rattle.nero_maze.specs.Routing.{first_alone}
-use Rattle.maze_nets.specs.declared.points.NetPoints.{NetPoints}
-use Rattle.maze_nets.specs.Nets.{net_points, net_reserved, AreRoutable}
-use Rattle.maze_nets.proofs.Lists.{get_in, point_reserved}
+use Rattle.maze_nets.proofs.Lists.{get_in}
 use Rattle.maze_rips.specs.declared.rip.PointRip.{PointRip}
 use Rattle.maze_rips.specs.Run.{Problem, Move, Begins, Joins, Rips, routes_after, without_paths, AreMoves}
-use Rattle.maze_rips.specs.Answers.{problem}
-use Rattle.maze_rips.specs.Law.{MovesKeepTreesApart}
+use Rattle.maze_rips.specs.Law.{HasOwnPoints, MovesKeepTreesApart}
 use Rattle.maze_rips.proofs.Working.{alone_nodes, tree_looser, tree_alone}
 
 -- ---- nodes of a tree are free
@@ -51,25 +47,25 @@ path_begun free q [] h = h
 path_begun free q (x ∷ rest) h = back_begun free x rest h.1
 
 -- ---- one move
-module _ (g : Grid) (nets : List NetPoints) (can : AreRoutable g nets) (routes : NetRoutes) (are : AreRoutes g (net_reserved nets) (net_points nets) (length nets) routes) where
-  first_free : (k : ℕ) (q : Node) → k < length nets → slice_get (net_points nets k) 0 ≡ Some q → IsFreeFor g (net_reserved nets) routes (length nets) k q
+module _ (maze : Problem) (can : HasOwnPoints maze) (routes : NetRoutes) (are : AreRoutes maze.grid maze.reserved maze.points maze.nets routes) where
+  first_free : (k : ℕ) (q : Node) → k < maze.nets → slice_get (maze.points k) 0 ≡ Some q → IsFreeFor maze.grid maze.reserved routes maze.nets k q
   first_free k q lt e =
-      let mine = point_reserved nets k q (get_in (net_points nets k) 0 q e) in
+      let mine = can.mine k q (get_in (maze.points k) 0 q e) in
       record {
-        within = can.within k q mine;
+        within = can.within k q lt mine;
         apart = λ j low ne i.
-            let f = nodes_free (IsFreeFor g (net_reserved nets) routes (length nets) j) (net_points nets j) (routes j) (are j low) q i in
+            let f = nodes_free (IsFreeFor maze.grid maze.reserved routes maze.nets j) (maze.points j) (routes j) (are j low) q i in
             f.kept k lt (λ e. ne (sym e)) mine;
-        kept = λ j low ne i. ne (can.alone j k q i mine);
+        kept = λ j low ne i. ne (can.alone j k q low lt i mine);
       }
 
-  joins_begun : (k : ℕ) (q : Node) (path : List Node) → IsPath (IsFreeFor g (net_reserved nets) routes (length nets) k) (tree_nodes (routes k)) q path → (t : Tree) × (routes k ≡ Some t)
+  joins_begun : (k : ℕ) (q : Node) (path : List Node) → IsPath (IsFreeFor maze.grid maze.reserved routes maze.nets k) (tree_nodes (routes k)) q path → (t : Tree) × (routes k ≡ Some t)
   joins_begun k q path is = by (routes k) refl
     where
       by : (o : Option Tree) → routes k ≡ o → (t : Tree) × (routes k ≡ Some t)
       by (Some t) e = (t, e)
-      by None e = absurd (path_begun (IsFreeFor g (net_reserved nets) routes (length nets) k) q path
-          (subst (λ (o : Option Tree). IsPath (IsFreeFor g (net_reserved nets) routes (length nets) k) (tree_nodes o) q path) e is))
+      by None e = absurd (path_begun (IsFreeFor maze.grid maze.reserved routes maze.nets k) q path
+          (subst (λ (o : Option Tree). IsPath (IsFreeFor maze.grid maze.reserved routes maze.nets k) (tree_nodes o) q path) e is))
 
   -- a net without its paths
   torn_same : (b j : ℕ) → j ≡ b → without_paths routes b j ≡ first_alone (routes b)
@@ -84,34 +80,48 @@ module _ (g : Grid) (nets : List NetPoints) (can : AreRoutable g nets) (routes :
     | inr ne ↦ subst (λ (o : Option Tree). In p (tree_nodes o)) (torn_other b j ne) i
   ]
 
-  torn_free : (b k : ℕ) (p : Node) → IsFreeFor g (net_reserved nets) routes (length nets) k p → IsFreeFor g (net_reserved nets) (without_paths routes b) (length nets) k p
+  torn_free : (b k : ℕ) (p : Node) → IsFreeFor maze.grid maze.reserved routes maze.nets k p → IsFreeFor maze.grid maze.reserved (without_paths routes b) maze.nets k p
   torn_free b k p f = record { within = f.within; apart = λ j lt ne i. f.apart j lt ne (torn_fewer b j p i); kept = f.kept }
 
-  torn_apart : (b : ℕ) → AreRoutes g (net_reserved nets) (net_points nets) (length nets) (without_paths routes b)
+  torn_apart : (b : ℕ) → AreRoutes maze.grid maze.reserved maze.points maze.nets (without_paths routes b)
   torn_apart b k lt = elim (cases_eq k b) [
-    | inr ne ↦ subst (IsTreeOver (IsFreeFor g (net_reserved nets) (without_paths routes b) (length nets) k) (net_points nets k)) (sym (torn_other b k ne))
-        (tree_looser (IsFreeFor g (net_reserved nets) routes (length nets) k) (IsFreeFor g (net_reserved nets) (without_paths routes b) (length nets) k) (torn_free b k) (net_points nets k) (routes k) (are k lt))
+    | inr ne ↦ subst (IsTreeOver (IsFreeFor maze.grid maze.reserved (without_paths routes b) maze.nets k) (maze.points k)) (sym (torn_other b k ne))
+        (tree_looser (IsFreeFor maze.grid maze.reserved routes maze.nets k) (IsFreeFor maze.grid maze.reserved (without_paths routes b) maze.nets k) (torn_free b k) (maze.points k) (routes k) (are k lt))
     | inl e ↦ (
         let is : without_paths routes b k ≡ first_alone (routes k) = torn_same b k e ∙ ap (λ (n : ℕ). first_alone (routes n)) (sym e) in
-        subst (IsTreeOver (IsFreeFor g (net_reserved nets) (without_paths routes b) (length nets) k) (net_points nets k)) (sym is)
-        (tree_alone (IsFreeFor g (net_reserved nets) routes (length nets) k) (IsFreeFor g (net_reserved nets) (without_paths routes b) (length nets) k) (torn_free b k) (net_points nets k) (routes k) (are k lt)))
+        subst (IsTreeOver (IsFreeFor maze.grid maze.reserved (without_paths routes b) maze.nets k) (maze.points k)) (sym is)
+        (tree_alone (IsFreeFor maze.grid maze.reserved routes maze.nets k) (IsFreeFor maze.grid maze.reserved (without_paths routes b) maze.nets k) (torn_free b k) (maze.points k) (routes k) (are k lt)))
   ]
 
 -- ---- all moves
-pub moves_apart : MovesKeepTreesApart
-moves_apart g nets order [] can h = λ k lt. tt
-moves_apart g nets order (Begins k q ∷ before) can h =
-    let are = moves_apart g nets order before can h.1 in
+keep_routes : (maze : Problem) (moves : List Move) → HasOwnPoints maze → AreMoves maze moves → AreRoutes maze.grid maze.reserved maze.points maze.nets (routes_after moves)
+keep_routes maze [] can h = λ k lt. tt
+keep_routes maze (Begins k q ∷ before) can h =
+    let are = keep_routes maze before can h.1 in
     let routes = routes_after before in
     let due = h.0.0 in
-    let first : slice_get (net_points nets k) 0 ≡ Some q = subst (λ (o : Option Tree). next_point (net_points nets k) o ≡ Some q) h.0.1 due.lacks in
-    routes_begin g (net_reserved nets) (net_points nets) (length nets) k routes q are due.known h.0.1 due.lacks (first_free g nets can routes are k q due.known first)
-moves_apart g nets order (Joins k path ∷ before) can h =
-    let are = moves_apart g nets order before can h.1 in
+    let first : slice_get (maze.points k) 0 ≡ Some q = subst (λ (o : Option Tree). next_point (maze.points k) o ≡ Some q) h.0.1 due.lacks in
+    routes_begin maze.grid maze.reserved maze.points maze.nets k routes q are due.known h.0.1 due.lacks (first_free maze can routes are k q due.known first)
+keep_routes maze (Joins k path ∷ before) can h =
+    let are = keep_routes maze before can h.1 in
     let routes = routes_after before in
     let q = h.0.0 in
     let due = h.0.1 in
     let least = h.0.2 in
-    let t = joins_begun g nets can routes are k q path least.leads in
-    routes_grow g (net_reserved nets) (net_points nets) (length nets) k routes q path t.0 are due.known t.1 due.lacks least.leads
-moves_apart g nets order (Rips r ∷ before) can h = torn_apart g nets can (routes_after before) (moves_apart g nets order before can h.1) r.torn
+    let t = joins_begun maze can routes are k q path least.leads in
+    routes_grow maze.grid maze.reserved maze.points maze.nets k routes q path t.0 are due.known t.1 due.lacks least.leads
+keep_routes maze (Rips r ∷ before) can h = torn_apart maze can (routes_after before) (keep_routes maze before can h.1) r.torn
+
+pub moves_apart : MovesKeepTreesApart
+moves_apart maze moves can h =
+    let routes = routes_after moves in
+    let trees = keep_routes maze moves can h in
+    record {
+      trees = trees;
+      apart = λ j k q low lt a b. elim (cases_eq j k) [
+        | inl e ↦ e
+        | inr ne ↦ (
+            let f = nodes_free (IsFreeFor maze.grid maze.reserved routes maze.nets k) (maze.points k) (routes k) (trees k lt) q b in
+            absurd (f.apart j low ne a))
+      ];
+    }

@@ -13,6 +13,9 @@ mod Telling
 mod Sounds
 mod Cutting
 mod Shortening
+mod Freeing
+mod Logged
+mod Freed
 mod Tearing
 mod Blocking
 mod Tracing

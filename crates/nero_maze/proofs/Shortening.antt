@@ -1,17 +1,16 @@
--- The log gets shorter, and nodes are freed one after another.
+-- The log gets shorter.
 use Rattle.std.proofs.Common.{ℕ, zero, suc, ◌≡◌, ◌≢◌, ◌+◌, ◌<◌, ◌≤◌, ◌⊎◌, inl, inr, List, [], ◌∷◌, length, Bool, true, false, set, slice_index, get_or, arith, sym, ◌∙◌, ap, refl, subst, get_or-set_same, get_or-set_other, length-set, add-one}
 use Rattle.std.specs.Prelude.{filter}
 use Rattle.std.proofs.lemmas.Bool.{cases_eq}
-use Rattle.grid_core.specs.Numbers.{nodes}
-use Rattle.nero_maze.specs.declared.frontier.Room.{Room}
 use Rattle.nero_maze.specs.declared.frontier.Marked.{Marked}
-use Rattle.nero_maze.specs.Search.{IsRoom, Kept, zeros, reserved_in}
-use Rattle.nero_maze.specs.Ripping.{IsOnPath, IsFreed, IsFreedAt, entries, stays, IsSifted, IsShorter}
-use Rattle.nero_maze.proofs.Reserving.{reserved_alike}
+use Rattle.vlsi_base.specs.Member.{In, here, there}
+use Rattle.grid_core.proofs.Owners.{first_or}
+use Rattle.nero_maze.specs.Search.{Kept, zeros}
+use Rattle.nero_maze.specs.Ripping.{entries, IsSifted, IsShorter}
 
 -- ---- lists
 
-zeros_clear : (xs : List ℕ) (i : ℕ) → get_or xs i 0 ≢ 0 → i < length xs → zeros (set xs i 0) ≡ zeros xs + 1
+pub zeros_clear : (xs : List ℕ) (i : ℕ) → get_or xs i 0 ≢ 0 → i < length xs → zeros (set xs i 0) ≡ zeros xs + 1
 zeros_clear [] i ne lt = let no : ⊥ = omega arith in absurd no
 zeros_clear (zero ∷ xs) zero ne lt = absurd (ne refl)
 zeros_clear (suc y ∷ xs) zero ne lt = omega arith
@@ -183,10 +182,9 @@ sifts_in st old new i count node k lt h at stay after eo em =
     }
 
 -- the next entry goes or stays
-pub sifts_on : (net : ℕ) (r : Room) (old new after : Marked) (i count result : ℕ) → Kept old.order.items old.marks.items old.count → i < old.count → Sifts (stays net r) old new i count
-    → IsSifted net r i count new after result → Sifts (stays net r) old after (i + 1) result
-sifts_on net r old new after i count result k lt h s =
-    let st = stays net r in
+pub sifts_on : (st : ℕ → Bool) (old new after : Marked) (i count result : ℕ) → Kept old.order.items old.marks.items old.count → i < old.count → Sifts st old new i count
+    → IsSifted st i count new after result → Sifts st old after (i + 1) result
+sifts_on st old new after i count result k lt h s =
     let node = slice_index new.order.items i in
     let at : slice_index old.order.items i ≡ node = sym (h.later i (omega arith)) in
     elim (bool_cases (st node)) [
@@ -198,10 +196,9 @@ sifts_on net r old new after i count result k lt h s =
           subst (λ (n : ℕ). Sifts st old after (i + 1) n) (sym e.0) (sifts_out st old new i count node k lt h at out after e.1 e.2))
     ]
 
-pub sifts_end : (net : ℕ) (r : Room) (old new : Marked) (count : ℕ) → Kept old.order.items old.marks.items old.count → Sifts (stays net r) old new old.count count
-    → (after : Marked) → after.order.items ≡ new.order.items → after.marks.items ≡ new.marks.items → after.count ≡ count → IsShorter net r old after
-sifts_end net r old new count k h after eo em ec =
-    let st = stays net r in
+pub sifts_end : (st : ℕ → Bool) (old new : Marked) (count : ℕ) → Kept old.order.items old.marks.items old.count → Sifts st old new old.count count
+    → (after : Marked) → after.order.items ≡ new.order.items → after.marks.items ≡ new.marks.items → after.count ≡ count → IsShorter st old after
+sifts_end st old new count k h after eo em ec =
     let ord = old.order.items in
     let ms = old.marks.items in
     let gone : (v : ℕ) → st v ≢ true → slice_index new.marks.items v ≡ 0 = λ v off. elim (cases_eq (slice_index ms v) 0) [
@@ -232,103 +229,57 @@ sifts_end net r old new count k h after eo em ec =
       entries = rw (eo, ec) h.entries;
     }
 
--- ---- nodes, one after another
-
--- the nodes before this one have been freed, if they were on a path
-pub record Frees (net : ℕ) (reserved : List ℕ) (old new : Room) (i : ℕ) : Type 0 where
-  pub room : IsRoom new
-  pub grid : new.grid ≡ old.grid
-  pub freed : (v : ℕ) → v < i → IsOnPath net old v → (slice_index new.owners.items v ≡ slice_index reserved v) × (slice_index new.links.items v ≡ 0)
-  pub others : (v : ℕ) → (v < i → IsOnPath net old v → ⊥)
-      → (slice_index new.owners.items v ≡ slice_index old.owners.items v) × (slice_index new.links.items v ≡ slice_index old.links.items v)
-
-pub frees_begin : (net : ℕ) (reserved : List ℕ) (old : Room) → IsRoom old → Frees net reserved old old 0
-frees_begin net reserved old room = record { room = room; grid = refl; freed = λ v lt. (let no : ⊥ = omega arith in absurd no); others = λ v out. (refl, refl) }
-
-pub frees_on : (net : ℕ) (reserved : List ℕ) (old new after : Room) (i word : ℕ) → i < nodes old.grid → Frees net reserved old new i → IsOnPath net old i
-    → slice_index reserved i ≡ word → after.grid ≡ new.grid → after.owners.items ≡ set new.owners.items i word → after.links.items ≡ set new.links.items i 0
-    → Frees net reserved old after (i + 1)
-frees_on net reserved old new after i word lt h on is eg eo el =
-    let lo : i < length new.owners.items = (let a = h.room.owners in let b = ap nodes h.grid in omega arith) in
-    let ll : i < length new.links.items = (let a = h.room.links in let b = ap nodes h.grid in omega arith) in
-    let at_o = get_or-set_same new.owners.items i word 0 lo in
-    let at_l = get_or-set_same new.links.items i 0 0 ll in
-    let off_o : (v : ℕ) → v ≢ i → slice_index after.owners.items v ≡ slice_index new.owners.items v = λ v ne. rw eo (get_or-set_other new.owners.items i v word 0 ne) in
-    let off_l : (v : ℕ) → v ≢ i → slice_index after.links.items v ≡ slice_index new.links.items v = λ v ne. rw el (get_or-set_other new.links.items i v 0 0 ne) in
-    record {
-      room = record {
-        few = rw eg h.room.few;
-        owners = rw (eo, eg) (length-set new.owners.items i word ∙ h.room.owners);
-        links = rw (el, eg) (length-set new.links.items i 0 ∙ h.room.links);
-      };
-      grid = eg ∙ h.grid;
-      freed = λ v v_lt p. elim (cases_eq v i) [
-        | inl e ↦ (rw (eo, e) (at_o ∙ sym is), rw (el, e) at_l)
-        | inr ne ↦ (let low : v < i = omega arith in let r = h.freed v low p in (off_o v ne ∙ r.0, off_l v ne ∙ r.1))
-      ];
-      others = λ v out.
-          let ne : v ≢ i = λ e. (let low : v < i + 1 = omega arith in out low (subst (λ (w : ℕ). IsOnPath net old w) (sym e) on)) in
-          let r = h.others v (λ low. out (omega arith)) in
-          (off_o v ne ∙ r.0, off_l v ne ∙ r.1);
-    }
-
-pub frees_off : (net : ℕ) (reserved : List ℕ) (old new : Room) (i : ℕ) → Frees net reserved old new i → (IsOnPath net old i → ⊥) → Frees net reserved old new (i + 1)
-frees_off net reserved old new i h off = record {
-  room = h.room;
-  grid = h.grid;
-  freed = λ v v_lt p. elim (cases_eq v i) [
-    | inl e ↦ absurd (off (subst (λ (w : ℕ). IsOnPath net old w) e p))
-    | inr ne ↦ (let low : v < i = omega arith in h.freed v low p)
-  ];
-  others = λ v out. h.others v (λ low. out (omega arith));
-}
-
-on_path : (net : ℕ) (r : Room) (v : ℕ) → IsOnPath net r v ⊎ (IsOnPath net r v → ⊥)
-on_path net r v = elim (cases_eq (slice_index r.links.items v) 0) [
-  | inl z ↦ inr (λ p. p.linked z)
-  | inr linked ↦ elim (cases_eq (slice_index r.links.items v) 9) [
-    | inl nine ↦ inr (λ p. p.joined nine)
-    | inr joined ↦ elim (cases_eq (slice_index r.owners.items v) net) [
-      | inl own ↦ inl (record { linked = linked; joined = joined; own = own })
-      | inr other ↦ inr (λ p. other p.own)
-    ]
-  ]
+-- ---- entries that stay by another test, which is the same on what is in the log
+pub entry_in : (ord : List ℕ) (n i : ℕ) → i < n → In (slice_index ord i) (entries ord n)
+entry_in ord zero i lt = let no : ⊥ = omega arith in absurd no
+entry_in ord (suc n) i lt = elim (cases_eq i n) [
+  | inl e ↦ subst (λ (k : ℕ). In (slice_index ord k) (entries ord (suc n))) (sym e) here
+  | inr ne ↦ there (entry_in ord n i (omega arith))
 ]
 
--- what is on a path by arrays that have the same there
-on_same : (net : ℕ) (r r' : Room) (v : ℕ) → slice_index r'.owners.items v ≡ slice_index r.owners.items v → slice_index r'.links.items v ≡ slice_index r.links.items v → IsOnPath net r v
-    → IsOnPath net r' v
-on_same net r r' v eo el p = record { linked = λ z. p.linked (sym el ∙ z); joined = λ n. p.joined (sym el ∙ n); own = eo ∙ p.own }
+pub entry_at : (ord : List ℕ) (n v : ℕ) → In v (entries ord n) → (i : ℕ) × (i < n) × (slice_index ord i ≡ v)
+entry_at ord zero v h = elim h [ ]
+entry_at ord (suc n) v h = elim (first_or v (slice_index ord n) (entries ord n) h) [
+  | inl e ↦ (n, omega arith, sym e)
+  | inr j ↦ (let (i, lt, at) = entry_at ord n v j in (i, omega arith, at))
+]
 
--- the next node is freed, or stays
-pub frees_next : (net : ℕ) (flags : List Bool) (old new after : Room) (i : ℕ) → i < nodes old.grid → IsRoom old → Frees net (reserved_in old.owners.items flags) old new i
-    → IsFreedAt net (reserved_in new.owners.items flags) i new after → Frees net (reserved_in old.owners.items flags) old after (i + 1)
-frees_next net flags old new after i lt room h s =
-    let reserved = reserved_in old.owners.items flags in
-    let same = h.others i (λ low on. (let no : ⊥ = omega arith in no)) in
-    elim (on_path net old i) [
-      | inl on ↦ (
-          let f = s.freed (on_same net old new i same.0 same.1 on) in
-          let lt_o : i < length old.owners.items = (let e = room.owners in omega arith) in
-          let size : length new.owners.items ≡ length old.owners.items = (let x = h.room.owners in let y = room.owners in let z = ap nodes h.grid in omega arith) in
-          let word = reserved_alike old.owners.items new.owners.items flags i lt_o size same.0 in
-          frees_on net reserved old new after i (slice_index (reserved_in new.owners.items flags) i) lt h on (sym word) s.grid f.0 f.1)
-      | inr off ↦ (
-          let e = s.same (λ on. off (on_same net new old i (sym same.0) (sym same.1) on)) in
-          subst (λ (r : Room). Frees net reserved old r (i + 1)) (sym e) (frees_off net reserved old new i h off))
+filter_same : (st st' : ℕ → Bool) (vs : List ℕ) → ((v : ℕ) → In v vs → st v ≡ st' v) → filter st vs ≡ filter st' vs
+filter_same st st' [] same = refl
+filter_same st st' (v ∷ vs) same =
+    let rest = filter_same st st' vs (λ w i. same w (there i)) in
+    let e = same v here in
+    elim (bool_cases (st v)) [
+      | inl is ↦ filter_in st v vs is ∙ (ap (λ (ws : List ℕ). v ∷ ws) rest ∙ sym (filter_in st' v vs (sym e ∙ is)))
+      | inr not ↦ filter_out st v vs not ∙ (rest ∙ sym (filter_out st' v vs (λ is. not (e ∙ is))))
     ]
+
+pub shorter_same : (st st' : ℕ → Bool) (old new : Marked) → Kept old.order.items old.marks.items old.count
+    → ((v : ℕ) → slice_index old.marks.items v ≢ 0 → st v ≡ st' v) → IsShorter st old new → IsShorter st' old new
+shorter_same st st' old new k same h =
+    let unmarked : (v : ℕ) → slice_index old.marks.items v ≡ 0 → slice_index new.marks.items v ≡ 0 = λ v z. elim (bool_cases (st v)) [
+      | inl is ↦ h.same v is ∙ z
+      | inr not ↦ h.gone v not
+    ] in
+    record {
+      kept = h.kept;
+      size = h.size;
+      same = λ v is. elim (cases_eq (slice_index old.marks.items v) 0) [
+        | inl z ↦ unmarked v z ∙ sym z
+        | inr some ↦ h.same v (same v some ∙ is)
+      ];
+      gone = λ v not. elim (cases_eq (slice_index old.marks.items v) 0) [
+        | inl z ↦ unmarked v z
+        | inr some ↦ h.gone v (λ is. not (sym (same v some) ∙ is))
+      ];
+      entries = h.entries ∙ filter_same st st' (entries old.order.items old.count) (λ v i.
+          let (at, lt, is) = entry_at old.order.items old.count v i in
+          same v (subst (λ (w : ℕ). slice_index old.marks.items w ≢ 0) is (k.marked at lt)));
+    }
+
+-- ---- nodes
 
 pub below_links : (l : List ℕ) (v : ℕ) → get_or l v 0 ≢ 0 → v < length l
 below_links [] v some = absurd (some refl)
 below_links (x ∷ xs) zero some = omega arith
 below_links (x ∷ xs) (suc v) some = let r = below_links xs v some in omega arith
-
-pub frees_end : (net : ℕ) (reserved : List ℕ) (old new : Room) (i : ℕ) → nodes old.grid ≤ i → IsRoom old → Frees net reserved old new i → IsFreed net reserved old new
-frees_end net reserved old new i le room h =
-    let low : (v : ℕ) → IsOnPath net old v → v < i = λ v p. (let b = below_links old.links.items v p.linked in let e = room.links in omega arith) in
-    record {
-      room = h.room;
-      grid = h.grid;
-      freed = λ v p. h.freed v (low v p) p;
-      others = λ v out. h.others v (λ lt. out);
-    }

@@ -1,5 +1,5 @@
 -- A net's paths are taken out of the arrays.
-use Rattle.std.proofs.Common.{ℕ, zero, suc, ◌≡◌, ◌≢◌, ◌<◌, ◌≤◌, ◌⊎◌, inl, inr, List, [], ◌∷◌, map, length, set, Bool, true, false, Option, Some, None, slice_index, arith, sym, ◌∙◌, ap, refl, subst, nat_eq}
+use Rattle.std.proofs.Common.{ℕ, ◌≡◌, ◌≢◌, ◌<◌, ◌≤◌, ◌⊎◌, inl, inr, List, [], ◌∷◌, map, length, set, Bool, true, false, Option, Some, None, slice_index, arith, sym, ◌∙◌, ap, refl, subst, nat_eq}
 use Rattle.std.specs.Prelude.{filter, cond}
 use Rattle.std.proofs.lemmas.Bool.{cases_eq, eq-eqb}
 use Rattle.vlsi_base.specs.Member.{In, here, there}
@@ -22,43 +22,16 @@ use Rattle.nero_maze.specs.Search.{IsOwn, IsIdle, reserved_in}
 use Rattle.nero_maze.specs.Claims.{Told}
 use Rattle.nero_maze.specs.Routing.{Move, Began, Joined, routes_of, first_alone, TakesOut}
 use Rattle.nero_maze.specs.Board.{follow, move_at, moves_in, moves_of, reserved_of, routing_of, AreBegun, HoldTrees, IsSound}
-use Rattle.nero_maze.specs.Ripping.{IsOnPath, IsFreed, IsShorter, entries, stays, IsTorn}
+use Rattle.nero_maze.specs.Ripping.{IsOnPath, IsFreed, IsShorter, entries, stays, is_linked, IsTorn}
 use Rattle.nero_maze.proofs.Holding.{hulls_with}
 use Rattle.nero_maze.proofs.Growth.{follow_told, test_other}
 use Rattle.nero_maze.proofs.Ties.{table}
 use Rattle.nero_maze.proofs.Reserving.{reserved_same, reserved_flagged}
-use Rattle.nero_maze.proofs.Shortening.{below_links}
-use Rattle.nero_maze.proofs.Sounds.{in_map, some_tree}
-use Rattle.nero_maze.proofs.Cutting.{keeps, Cut, cut, path_known, start_known, began_known}
-
--- ---- the log by its entries
-moves_entries : (g : Grid) (o l m ord : List ℕ) (n : ℕ) → moves_in g o l m ord n ≡ map (move_at g o l m) (entries ord n)
-moves_entries g o l m ord zero = refl
-moves_entries g o l m ord (suc n) = ap (λ (ms : List Move). move_at g o l m (slice_index ord n) ∷ ms) (moves_entries g o l m ord n)
-
-pub entry_in : (ord : List ℕ) (n i : ℕ) → i < n → In (slice_index ord i) (entries ord n)
-entry_in ord zero i lt = let no : ⊥ = omega arith in absurd no
-entry_in ord (suc n) i lt = elim (cases_eq i n) [
-  | inl e ↦ subst (λ (k : ℕ). In (slice_index ord k) (entries ord (suc n))) (sym e) here
-  | inr ne ↦ there (entry_in ord n i (omega arith))
-]
-
-pub entry_at : (ord : List ℕ) (n v : ℕ) → In v (entries ord n) → (i : ℕ) × (i < n) × (slice_index ord i ≡ v)
-entry_at ord zero v h = elim h [ ]
-entry_at ord (suc n) v h = elim (first_or v (slice_index ord n) (entries ord n) h) [
-  | inl e ↦ (n, omega arith, sym e)
-  | inr j ↦ (let (i, lt, at) = entry_at ord n v j in (i, omega arith, at))
-]
-
-in_moves : (f : ℕ → Move) (vs : List ℕ) (v : ℕ) → In v vs → In (f v) (map f vs)
-in_moves f [] v h = elim h [ ]
-in_moves f (x ∷ xs) v here = here
-in_moves f (x ∷ xs) v (there h) = there (in_moves f xs v h)
-
-from_moves : (f : ℕ → Move) (vs : List ℕ) (m : Move) → In m (map f vs) → (v : ℕ) × In v vs × (f v ≡ m)
-from_moves f [] m h = elim h [ ]
-from_moves f (x ∷ xs) m here = (x, here, refl)
-from_moves f (x ∷ xs) m (there h) = let r = from_moves f xs m h in (r.0, there r.1, r.2)
+use Rattle.nero_maze.proofs.Shortening.{below_links, shorter_same}
+use Rattle.nero_maze.proofs.Freeing.{on_path}
+use Rattle.nero_maze.proofs.Logged.{moves_entries, in_moves, from_moves, moves_known, known_begun, known_mark, mark_known, path_owner}
+use Rattle.nero_maze.proofs.Sounds.{some_tree}
+use Rattle.nero_maze.proofs.Cutting.{keeps, Cut, cut, start_known, began_known}
 
 -- entries that stay are those whose moves do
 filter_moves : (f f' : ℕ → Move) (st : ℕ → Bool) (net : ℕ) (vs : List ℕ) → ((v : ℕ) → In v vs → keeps net (f v) ≡ st v) → ((v : ℕ) → In v vs → st v ≡ true → f' v ≡ f v)
@@ -83,7 +56,7 @@ torn_own net reserved old new h k v own =
     let kept = h.others v off in
     (off, ((λ z. own.0 (kept.1 ∙ z)), sym kept.0 ∙ own.1))
 
-pub torn_hulls : (b : Board) (net : ℕ) → IsSound b → (room : Room) (log : Marked) → IsFreed net (reserved_of b) b.room room → IsShorter net b.room b.log log
+pub torn_hulls : (b : Board) (net : ℕ) → IsSound b → (room : Room) (log : Marked) → IsFreed net (reserved_of b) b.room room → IsShorter (stays net b.room) b.log log
     → (hull : Hull) → ((i : ℕ) → i < log.count → IsOwn room.owners.items room.links.items net (slice_index log.order.items i)
     → far room.grid hull (slice_index log.order.items i) ≡ 0)
     → AreHulls room.grid (set b.hulls.items net hull) room.owners.items room.links.items
@@ -105,6 +78,31 @@ torn_hulls b net s room log freed short hull held =
     (held i lt (subst (λ (w : ℕ). IsOwn room.owners.items room.links.items net w) (sym at) mine)) in
     hulls_with room.grid b.hulls.items hull o l room.owners.items room.links.items net old own
     (λ k v ne mine. (torn_own net (reserved_of b) b.room room freed k v mine).1)
+
+-- ---- entries that stay
+freed_linked : (b : Board) (net : ℕ) (s : IsSound b) (room : Room) → IsFreed net (reserved_of b) b.room room → (v : ℕ) → slice_index b.log.marks.items v ≢ 0
+    → is_linked room v ≡ stays net b.room v
+freed_linked b net s room h v some =
+    let linked = s.linked v some in
+    elim (on_path net b.room v) [
+      | inl on ↦ (
+          let zero = (h.freed v on).1 in
+          rw (eq-eqb (slice_index room.links.items v) 0 zero, eq-eqb (slice_index b.room.owners.items v) net on.own, test_other (slice_index b.room.links.items v) 9 on.joined) refl)
+      | inr off ↦ (
+          let kept = (h.others v off).1 in
+          let some' : slice_index room.links.items v ≢ 0 = λ z. linked (sym kept ∙ z) in
+          elim (cases_eq (slice_index b.room.owners.items v) net) [
+            | inr ne ↦ rw (test_other (slice_index room.links.items v) 0 some', test_other (slice_index b.room.owners.items v) net ne) refl
+            | inl own ↦ elim (cases_eq (slice_index b.room.links.items v) 9) [
+              | inl nine ↦ rw (test_other (slice_index room.links.items v) 0 some', eq-eqb (slice_index b.room.owners.items v) net own, eq-eqb (slice_index b.room.links.items v) 9 nine) refl
+              | inr joined ↦ absurd (off (record { linked = linked; joined = joined; own = own }))
+            ]
+          ])
+    ]
+
+pub torn_log : (b : Board) (net : ℕ) (s : IsSound b) (room : Room) (log : Marked) → IsFreed net (reserved_of b) b.room room → IsShorter (is_linked room) b.log log
+    → IsShorter (stays net b.room) b.log log
+torn_log b net s room log freed short = shorter_same (is_linked room) (stays net b.room) b.log log s.log (freed_linked b net s room freed) short
 
 -- ---- one net is torn out
 module _ (b b' : Board) (net : ℕ) (s : IsSound b) (h : IsTorn net b b') where
@@ -137,19 +135,6 @@ module _ (b b' : Board) (net : ℕ) (s : IsSound b) (h : IsTorn net b b') where
 
   abbrev known : List ℕ
   known = entries ord b.log.count
-
-  -- a node is on a path that goes, or not
-  on_path : (v : ℕ) → IsOnPath net b.room v ⊎ (IsOnPath net b.room v → ⊥)
-  on_path v = elim (cases_eq (slice_index l v) 0) [
-    | inl z ↦ inr (λ p. p.linked z)
-    | inr linked ↦ elim (cases_eq (slice_index l v) 9) [
-      | inl nine ↦ inr (λ p. p.joined nine)
-      | inr joined ↦ elim (cases_eq (slice_index o v) net) [
-        | inl own ↦ inl (record { linked = linked; joined = joined; own = own })
-        | inr other ↦ inr (λ p. other p.own)
-      ]
-    ]
-  ]
 
   stays_other : (v : ℕ) → slice_index o v ≢ net → st v ≡ true
   stays_other v ne = rw (test_other (slice_index o v) net ne) refl
@@ -184,32 +169,6 @@ module _ (b b' : Board) (net : ℕ) (s : IsSound b) (h : IsTorn net b b') where
       by true e = e
       by false e = absurd (some (h.log.gone v (λ is. (let no : ◌≡◌ {A = Bool} true false = sym is ∙ e in absurd (cc no)))))
 
-  -- the moves of the log
-  are : moves_of b ≡ map (move_at g o l ms) known
-  are = moves_entries g o l ms ord b.log.count
-
-  pub begun : AreBegun (map (move_at g o l ms) known)
-  begun = subst (λ (xs : List Move). AreBegun xs) are s.begun
-
-  known_mark : (v : ℕ) → In v known → slice_index ms v ≢ 0
-  known_mark v i = let (k, lt, at) = entry_at ord b.log.count v i in subst (λ (w : ℕ). slice_index ms w ≢ 0) at (s.log.marked k lt)
-
-  mark_known : (v : ℕ) → slice_index ms v ≢ 0 → In v known
-  mark_known v some = let (k, lt, at) = s.log.found v some in subst (λ (w : ℕ). In w known) at (entry_in ord b.log.count k lt)
-
-  -- all nodes of a path in the log have one owner
-  path_owner : (v : ℕ) → In v known → slice_index ms v ≢ 2 → slice_index l v ≢ 9 → (rest : List ℕ) → Told g l v rest → length rest ≤ nodes g
-      → (w : ℕ) → In w (v ∷ rest) → slice_index o w ≡ slice_index o v
-  path_owner v i not_two not_nine rest told short w iw =
-      let k = slice_index o v in
-      let follows = follow_told g l (nodes g) v rest told short in
-      let is : move_at g o l ms v ≡ Joined k (map (node_of g) (v ∷ rest)) =
-      rw (test_other (slice_index ms v) 2 not_two, test_other (slice_index l v) 9 not_nine, follows) refl in
-      let made = subst (λ (m : Move). In m (map (move_at g o l ms) known)) is (in_moves (move_at g o l ms) known v i) in
-      let inside = path_known (map (move_at g o l ms) known) begun k (map (node_of g) (v ∷ rest)) made (node_of g w) (in_map (node_of g) (v ∷ rest) w iw) in
-      let r = s.back k (node_of g w) (subst (λ (xs : List Move). In (node_of g w) (tree_nodes (routes_of xs k))) (sym are) inside) in
-      sym (ap (λ (x : ℕ). slice_index o x) (number-node_of g w)) ∙ r.1.1
-
   -- so the path of another net is told as before
   told_kept : (rest : List ℕ) (v : ℕ) → Told g l v rest → ((w : ℕ) → In w (v ∷ rest) → slice_index o w ≢ net) → Told g l' v rest
   told_kept [] v t apart = absurd t
@@ -220,8 +179,8 @@ module _ (b b' : Board) (net : ℕ) (s : IsSound b) (h : IsTorn net b b') where
   told_again : (v : ℕ) → In v known → slice_index o v ≢ net → slice_index ms v ≢ 2 → slice_index l v ≢ 9
       → (rest : List ℕ) × Told g l v rest × Told g l' v rest × (length rest ≤ nodes g)
   told_again v i other not_two not_nine =
-      let (rest, told, short) = s.told v (known_mark v i) not_two not_nine in
-      (rest, told, told_kept rest v told (λ w iw e. other (sym (path_owner v i not_two not_nine rest told short w iw) ∙ e)), short)
+      let (rest, told, short) = s.told v (known_mark b s v i) not_two not_nine in
+      (rest, told, told_kept rest v told (λ w iw e. other (sym (path_owner b s v i not_two not_nine rest told short w iw) ∙ e)), short)
 
   -- an entry that stays tells what it told
   same_move : (v : ℕ) → In v known → st v ≡ true → move_at g o' l' ms' v ≡ move_at g o l ms v
@@ -275,13 +234,13 @@ module _ (b b' : Board) (net : ℕ) (s : IsSound b) (h : IsTorn net b b') where
       ∙ (ap (map (move_at g o' l' ms')) h.log.entries ∙ filter_moves (move_at g o l ms) (move_at g o' l' ms') st net known keeps_same same_move))
 
   cut_all : Cut net (map (move_at g o l ms) known) (filter (keeps net) (map (move_at g o l ms) known))
-  cut_all = cut net (map (move_at g o l ms) known) begun
+  cut_all = cut net (map (move_at g o l ms) known) (known_begun b s)
 
   pub other_tree : (k : ℕ) → k ≢ net → routes_of (moves_of b') k ≡ routes_of (moves_of b) k
-  other_tree k ne = ap (λ (xs : List Move). routes_of xs k) left_moves ∙ (cut_all.others k ne ∙ ap (λ (xs : List Move). routes_of xs k) (sym are))
+  other_tree k ne = ap (λ (xs : List Move). routes_of xs k) left_moves ∙ (cut_all.others k ne ∙ ap (λ (xs : List Move). routes_of xs k) (sym (moves_known b)))
 
   pub own_tree : routes_of (moves_of b') net ≡ first_alone (routes_of (moves_of b) net)
-  own_tree = ap (λ (xs : List Move). routes_of xs net) left_moves ∙ (cut_all.alone ∙ ap (λ (xs : List Move). first_alone (routes_of xs net)) (sym are))
+  own_tree = ap (λ (xs : List Move). routes_of xs net) left_moves ∙ (cut_all.alone ∙ ap (λ (xs : List Move). first_alone (routes_of xs net)) (sym (moves_known b)))
 
   -- the net's root is where its tree began
   root_start : (v : ℕ) → slice_index l v ≡ 9 → slice_index o v ≡ net → (t : Tree) → routes_of (moves_of b) net ≡ Some t → t.start ≡ node_of g v
@@ -290,15 +249,15 @@ module _ (b b' : Board) (net : ℕ) (s : IsSound b) (h : IsTorn net b b') where
       let not_two : slice_index ms v ≢ 2 = omega arith in
       let some : slice_index ms v ≢ 0 = omega arith in
       let told : move_at g o l ms v ≡ Began net (node_of g v) = rw (test_other (slice_index ms v) 2 not_two, eq-eqb (slice_index l v) 9 nine, own) refl in
-      let made = subst (λ (m : Move). In m (map (move_at g o l ms) known)) told (in_moves (move_at g o l ms) known v (mark_known v some)) in
-      let (t', is', at) = start_known (map (move_at g o l ms) known) begun net (node_of g v) made in
-      let both : Some t ≡ Some t' = sym is ∙ (ap (λ (xs : List Move). routes_of xs net) are ∙ is') in
+      let made = subst (λ (m : Move). In m (map (move_at g o l ms) known)) told (in_moves (move_at g o l ms) known v (mark_known b s v some)) in
+      let (t', is', at) = start_known (map (move_at g o l ms) known) (known_begun b s) net (node_of g v) made in
+      let both : Some t ≡ Some t' = sym is ∙ (ap (λ (xs : List Move). routes_of xs net) (moves_known b) ∙ is') in
       let same : t ≡ t' = cc both in
       ap (λ (x : Tree). x.start) same ∙ at
 
   start_root : (t : Tree) → routes_of (moves_of b) net ≡ Some t → slice_index l (number g t.start) ≡ 9
   start_root t is =
-      let made = began_known (map (move_at g o l ms) known) net t (sym (ap (λ (xs : List Move). routes_of xs net) are) ∙ is) in
+      let made = began_known (map (move_at g o l ms) known) net t (sym (ap (λ (xs : List Move). routes_of xs net) (moves_known b)) ∙ is) in
       let (v, iv, told) = from_moves (move_at g o l ms) known (Began net t.start) made in
       elim (cases_eq (slice_index ms v) 2) [
         | inl two ↦ (
@@ -360,7 +319,7 @@ module _ (b b' : Board) (net : ℕ) (s : IsSound b) (h : IsTorn net b b') where
   torn_reserved =
       let size : length o' ≡ length o = (let x = h.freed.room.owners in let y = s.room.owners in let z = ap nodes h.freed.grid in omega arith) in
       ap (λ (r : List Bool). reserved_in o' r) (ap (λ r. r.items) h.reserved)
-      ∙ reserved_same o o' b.reserved.items size (λ v lt flag. elim (on_path v) [
+      ∙ reserved_same o o' b.reserved.items size (λ v lt flag. elim (on_path net b.room v) [
         | inl p ↦ (h.freed.freed v p).0 ∙ reserved_flagged o b.reserved.items v lt flag
         | inr off ↦ (h.freed.others v off).0
       ])
@@ -394,7 +353,7 @@ module _ (b b' : Board) (net : ℕ) (s : IsSound b) (h : IsTorn net b b') where
             let was : slice_index ms v ≢ 0 = λ z. some (mark ∙ z) in
             let joined : slice_index l v ≢ 9 = λ nine. not_nine (kept.1 ∙ nine) in
             let other : slice_index o v ≢ net = elim which [ inl ne ↦ ne | inr nine ↦ absurd (joined nine) ] in
-            let (rest, told, again, short) = told_again v (mark_known v was) other (λ two. not_two (mark ∙ two)) joined in
+            let (rest, told, again, short) = told_again v (mark_known b s v was) other (λ two. not_two (mark ∙ two)) joined in
             let again' : Told b'.room.grid l' v rest = subst (λ (k : Grid). Told k l' v rest) (sym eg) again in
             let short' : length rest ≤ nodes b'.room.grid = subst (λ (k : Grid). length rest ≤ nodes k) (sym eg) short in
             (rest, again', short');
@@ -403,7 +362,7 @@ module _ (b b' : Board) (net : ℕ) (s : IsSound b) (h : IsTorn net b b') where
         begun = subst (λ (xs : List Move). AreBegun xs) (sym left_moves) cut_all.begun;
         sized = ap (λ (xs : List Bool). length xs) er ∙ (s.sized ∙ ap nodes (sym eg));
         flagged = subst (λ (r : List Bool). (v : ℕ) → slice_index_or r v false ≡ true → slice_index o' v ≢ 4294967295) (sym er) (λ v flag.
-            elim (on_path v) [
+            elim (on_path net b.room v) [
               | inr off ↦ (let same = (h.freed.others v off).0 in λ e. s.flagged v flag (sym same ∙ e))
               | inl p ↦ (
                   let lt : v < length o = (let below = below_links l v p.linked in let x = s.room.owners in let y = s.room.links in omega arith) in
@@ -411,7 +370,7 @@ module _ (b b' : Board) (net : ℕ) (s : IsSound b) (h : IsTorn net b b') where
                   λ e. s.flagged v flag (sym same ∙ e))
             ]);
         untaken = subst (λ (r : List ℕ). (v : ℕ) → slice_index l' v ≡ 0 → slice_index o' v ≡ slice_index r v) (sym torn_reserved) (λ v z.
-            elim (on_path v) [
+            elim (on_path net b.room v) [
               | inl p ↦ (h.freed.freed v p).0
               | inr off ↦ (let kept = h.freed.others v off in kept.0 ∙ s.untaken v (sym kept.1 ∙ z))
             ]);
@@ -436,7 +395,7 @@ module _ (b b' : Board) (net : ℕ) (s : IsSound b) (h : IsTorn net b b') where
             let r = s.back net p i in
             let lt = number_below g p r.0 in
             let at = node_of-number g p r.0 in
-            elim (on_path v) [
+            elim (on_path net b.room v) [
               | inl on ↦ ap (λ (k : Grid). owner_in (slice_index o' (number k p))) eg ∙ ap owner_in (h.freed.freed v on).0
               | inr off ↦ (
                   let kept = h.freed.others v off in
@@ -449,7 +408,7 @@ module _ (b b' : Board) (net : ℕ) (s : IsSound b) (h : IsTorn net b b') where
             let v = number g p in
             let lt = number_below g p hp in
             let at = node_of-number g p hp in
-            elim (on_path v) [
+            elim (on_path net b.room v) [
               | inr off ↦ ap (λ (k : Grid). owner_in (slice_index o' (number k p))) eg ∙ ap owner_in (h.freed.others v off).0
               | inl on ↦ (
                   let old = subst (λ (k : ℕ). In (node_of g v) (tree_nodes (routes_of (moves_of b) k))) on.own (s.forth v lt on.linked) in

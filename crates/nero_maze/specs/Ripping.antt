@@ -1,11 +1,12 @@
 -- Paths that are taken out, and nets that stand in a way: what the arrays become and say.
-use Rattle.std.specs.Prelude.{ℕ, zero, suc, ◌≡◌, ◌≢◌, ◌+◌, ◌<◌, ◌⊎◌, Bool, true, length, List, [], ◌∷◌, filter, cond, nat_eq, slice_index, slice_set}
+use Rattle.std.specs.Prelude.{ℕ, zero, suc, ◌≡◌, ◌≢◌, ◌+◌, ◌-◌, ◌%◌, ◌<◌, ◌⊎◌, Bool, true, length, List, [], ◌∷◌, Option, Some, cond, filter, nat_eq, not, slice_index, slice_set}
 use Rattle.grid_core.specs.Numbers.{nodes}
 use Rattle.nero_maze.specs.declared.board.Board.{Board}
 use Rattle.nero_maze.specs.declared.frontier.Marked.{Marked}
 use Rattle.nero_maze.specs.declared.frontier.Room.{Room}
 use Rattle.nero_maze.specs.Search.{IsRoom, IsFree, IsOwn, Kept, LeadsTo, NoneBelow}
 use Rattle.nero_maze.specs.Board.{reserved_of}
+use Rattle.nero_maze.specs.Ways.{next}
 
 -- ---- a net without its paths
 
@@ -23,6 +24,20 @@ pub record IsFreed (net : ℕ) (reserved : List ℕ) (old new : Room) : Type 0 w
   pub others : (v : ℕ) → (IsOnPath net old v → ⊥)
       → (slice_index new.owners.items v ≡ slice_index old.owners.items v) × (slice_index new.links.items v ≡ slice_index old.links.items v)
 
+-- the next node on the path of a node, as its link tells it
+abbrev pub onward : Room → ℕ → Option ℕ
+onward r v = next r.grid v ((slice_index r.links.items v - 1) % 4)
+
+-- Some of them are in no tree any more: all that are ends, and with each of them the next one on its path.
+pub record IsFreedFrom (net : ℕ) (reserved : List ℕ) (ends : ℕ → Type 0) (old new : Room) : Type 0 where
+  pub room : IsRoom new
+  pub grid : new.grid ≡ old.grid
+  pub either : (v : ℕ) → ((slice_index new.owners.items v ≡ slice_index old.owners.items v) × (slice_index new.links.items v ≡ slice_index old.links.items v))
+      ⊎ (IsOnPath net old v × (slice_index new.owners.items v ≡ slice_index reserved v) × (slice_index new.links.items v ≡ 0))
+  pub ended : (v : ℕ) → ends v → IsOnPath net old v → slice_index new.links.items v ≡ 0
+  pub closed : (v w : ℕ) → IsOnPath net old v → slice_index new.links.items v ≡ 0 → onward old v ≡ Some w → IsOnPath net old w
+      → slice_index new.links.items w ≡ 0
+
 -- one node, if it is such a one
 pub record IsFreedAt (net : ℕ) (reserved : List ℕ) (v : ℕ) (old new : Room) : Type 0 where
   pub grid : new.grid ≡ old.grid
@@ -39,25 +54,29 @@ entries order (suc n) = slice_index order n ∷ entries order n
 abbrev pub stays : ℕ → Room → ℕ → Bool
 stays net r v = cond (nat_eq (slice_index r.owners.items v) net) (nat_eq (slice_index r.links.items v) 9) true
 
+-- the node is in a tree
+abbrev pub is_linked : Room → ℕ → Bool
+is_linked r v = not (nat_eq (slice_index r.links.items v) 0)
+
 -- one entry goes, or moves to the place behind those that stay
-pub record IsSifted (net : ℕ) (r : Room) (at count : ℕ) (old new : Marked) (result : ℕ) : Type 0 where
+pub record IsSifted (left : ℕ → Bool) (at count : ℕ) (old new : Marked) (result : ℕ) : Type 0 where
   pub held : new.count ≡ old.count
-  pub goes : stays net r (slice_index old.order.items at) ≢ true
+  pub goes : left (slice_index old.order.items at) ≢ true
       → (result ≡ count) × (new.order.items ≡ old.order.items) × (new.marks.items ≡ slice_set old.marks.items (slice_index old.order.items at) 0)
-  pub keeps : stays net r (slice_index old.order.items at) ≡ true
+  pub keeps : left (slice_index old.order.items at) ≡ true
       → (result ≡ count + 1) × (new.order.items ≡ slice_set old.order.items count (slice_index old.order.items at)) × (new.marks.items ≡ old.marks.items)
 
--- the log has these entries alone, in the order in which they were
-pub record IsShorter (net : ℕ) (r : Room) (old new : Marked) : Type 0 where
+-- the log has the entries that stay alone, in the order in which they were
+pub record IsShorter (left : ℕ → Bool) (old new : Marked) : Type 0 where
   pub kept : Kept new.order.items new.marks.items new.count
   pub size : length new.marks.items ≡ length old.marks.items
-  pub same : (v : ℕ) → stays net r v ≡ true → slice_index new.marks.items v ≡ slice_index old.marks.items v
-  pub gone : (v : ℕ) → stays net r v ≢ true → slice_index new.marks.items v ≡ 0
-  pub entries : entries new.order.items new.count ≡ filter (stays net r) (entries old.order.items old.count)
+  pub same : (v : ℕ) → left v ≡ true → slice_index new.marks.items v ≡ slice_index old.marks.items v
+  pub gone : (v : ℕ) → left v ≢ true → slice_index new.marks.items v ≡ 0
+  pub entries : entries new.order.items new.count ≡ filter left (entries old.order.items old.count)
 
 pub record IsTorn (net : ℕ) (old new : Board) : Type 0 where
   pub freed : IsFreed net (reserved_of old) old.room new.room
-  pub log : IsShorter net old.room old.log new.log
+  pub log : IsShorter (stays net old.room) old.log new.log
   pub frontier : new.frontier ≡ old.frontier
   pub reserved : new.reserved ≡ old.reserved
 

@@ -10,7 +10,7 @@ use crate::claim::claim;
 use crate::frontier::{Frontier, Marked, Room, Words, clear, push, reserved_word};
 use crate::hull::{Hull, hull_of_logged, hull_of_tree, keep_hull, nowhere, with_node};
 use crate::search::search;
-use crate::tear::{drop_moves, free_paths};
+use crate::tear::{drop_freed, free_paths};
 use crate::trace::{first_taken, is_free};
 use grid_core::NOBODY;
 use std::alloc::{AllocError, Global};
@@ -133,14 +133,15 @@ pub(crate) fn keep_off(board: &mut Board, net: u32)
     board.frontier.ties.add_tree(&board.room, &hull, net);
 }
 
-/// Takes the paths of a net out: its tree is the node at which it began, and their other nodes are whose they were before.
+/// Takes the paths of a net out: its tree is the node at which it began, and their other nodes are whose they were before. It goes over the
+/// log and over these paths alone.
 pub(crate) fn tear(board: &mut Board, net: u32)
     requires sound { IsSound board.old }
     ensures torn { IsTorn net board.old board.new }
     ensures holds { HoldTrees board.new }
 {
-    drop_moves(&board.room, &mut board.log, net);
-    free_paths(&mut board.room, &board.reserved, net);
+    free_paths(&mut board.room, &board.reserved, net, &board.log);
+    drop_freed(&board.room, &mut board.log);
     let hull = hull_of_logged(&board.room, &board.log, net);
     keep_hull(&mut board.hulls, net, hull);
 }

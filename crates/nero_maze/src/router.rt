@@ -122,7 +122,7 @@ impl Router {
     }
 
     /// Takes the paths of a net out: its tree is its first point again, and every other tree stays. Their nodes are owned by whom they are
-    /// reserved for, as when the router began. Takes no memory, and goes over all nodes.
+    /// reserved for, as when the router began. Takes no memory, and goes over these paths and once over the points of all trees.
     pub fn take_out(&mut self, net: u32)
         requires begun { tree_of self.old net ≢ None }
         ensures { TakesOut net self.old self.new }

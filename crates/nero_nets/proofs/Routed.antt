@@ -1,5 +1,5 @@
 -- Routes over the points of nets in memory are routes over those of the netlist of layouts that it is seen as.
-use Rattle.std.proofs.Common.{◌≡◌, ℕ, ◌+◌, ◌-◌, ◌/◌, ◌<◌, ◌≤◌, ◌^◌, List, [], ◌∷◌, ◌++◌, length, Option, Some, None, refl, sym, ap, ap₂, ◌∙◌, subst, arith}
+use Rattle.std.proofs.Common.{◌≡◌, ℕ, suc, ◌+◌, ◌-◌, ◌/◌, ◌<◌, ◌≤◌, ◌^◌, List, [], ◌∷◌, ◌++◌, length, Option, Some, None, refl, sym, ap, ap₂, ◌∙◌, subst, arith}
 use Rattle.std.specs.Prelude.{ℤ, reverse, flat_map, slice_get, slice_index_or}
 use Rattle.std.proofs.lemmas.Option.{slice_get_read}
 use Rattle.std.proofs.lemmas.List.{reverse-reverse}
@@ -20,7 +20,7 @@ use Rattle.grid_core.specs.declared.grid.Grid.{Grid}
 use Rattle.grid_core.specs.declared.grid.Node.{Node}
 use Rattle.grid_core.specs.Grid.{above}
 use Rattle.grid_core.specs.Numbers.{plane, nodes}
-use Rattle.grid_core.specs.Routes.{NetRoutes}
+use Rattle.grid_core.specs.Routes.{Tree, NetRoutes}
 use Rattle.grid_core.specs.Trees.{AreRoutes, AreWhole, AreDone, IsNetOrder, IsStuckAt}
 use Rattle.grid_core.proofs.Lists.{In_first, In_last}
 use Rattle.maze_nets.specs.declared.points.NetPoints.{NetPoints}
@@ -115,18 +115,23 @@ module _ (k : AbstractNetlist) (l : Library) (p : InRow) (nets : List NetPoints)
 
     pub stuck_before : (net at : ℕ) (t : Terminal) → AreStuck g nets routes net at → slice_get (net_terminals k l (net_number k l) (rows_of k p) (stood_in k p) net) at ≡ Some t
         → IsStuckBefore k l (net_number k l) (rows_of k p) (stood_in k p) metals routes net t
-    stuck_before net at t s named = record {
-      earlier = s.earlier;
-      later = s.later;
-      sorted = sorted_as (reverse s.earlier ++ net ∷ s.later) s.sorted;
-      at = at;
-      point = s.point;
-      named = named;
-      numbered = subst (λ qs. slice_get qs at ≡ Some s.point) (same_points net (net_there net at s)) s.numbered;
-      stuck = subst (λ (m : ℕ). IsStuckAt g (reserved_of k l p) (nodes_of k l p) m routes s.earlier s.later net s.point) are.many
-          (stuck_same g (length nets) (net_reserved nets) (reserved_of k l p) (net_points nets) (nodes_of k l p) same_reserved same_points routes s.earlier s.later net s.point
-          (net_there net at s) (λ j i. (s.sorted.each j).0 (In_first (reverse s.earlier) (net ∷ s.later) j (In_back s.earlier j i))) s.stuck);
-    }
+    stuck_before net at t s named =
+        let stuck = subst (λ (m : ℕ). IsStuckAt g (reserved_of k l p) (nodes_of k l p) m routes s.earlier s.later net s.point) are.many
+        (stuck_same g (length nets) (net_reserved nets) (reserved_of k l p) (net_points nets) (nodes_of k l p) same_reserved same_points routes s.earlier s.later net s.point
+        (net_there net at s) (λ j i. (s.sorted.each j).0 (In_first (reverse s.earlier) (net ∷ s.later) j (In_back s.earlier j i))) s.stuck) in
+        let both : Some stuck.tree ≡ Some s.stuck.tree = sym stuck.begun ∙ s.stuck.begun in
+        let same : stuck.tree ≡ s.stuck.tree = cc both in
+        record {
+          earlier = s.earlier;
+          later = s.later;
+          sorted = sorted_as (reverse s.earlier ++ net ∷ s.later) s.sorted;
+          at = at;
+          point = s.point;
+          named = named;
+          numbered = subst (λ qs. slice_get qs at ≡ Some s.point) (same_points net (net_there net at s)) s.numbered;
+          stuck = stuck;
+          number = ap (λ (x : Tree). suc (length x.paths)) same ∙ s.number;
+        }
 
 -- ---- sizes
 

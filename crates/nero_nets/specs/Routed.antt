@@ -1,5 +1,6 @@
 -- Nets that were routed one after another, and the one that got stuck.
-use Rattle.std.specs.Prelude.{◌≡◌, ℕ, List, [], ◌∷◌, ◌++◌, Option, None, Some, reverse, slice_get, if◌then◌else◌}
+use Rattle.std.specs.Prelude.{◌≡◌, ℕ, List, [], ◌∷◌, ◌++◌, Option, None, Some, length, reverse, slice_get, if◌then◌else◌}
+use Prim.Native.Nat.{suc}
 use Rattle.std.specs.List.{flat_map}
 use Rattle.vlsi_base.specs.declared.name.Name.{Name}
 use Rattle.vlsi_base.specs.declared.name.Terminal.{Terminal}
@@ -42,7 +43,7 @@ pub record AreInOrder (n : AbstractNetlist) (l : Library) (net : Numbering) (p :
   pub done : AreDone (grid_over metals l p) (reserved n l net p instances) (net_nodes n l net p instances) (net_count n) routes (reverse order)
 
 -- They were taken so up to net k, which got stuck: no free path leads from its tree to the node of the terminal, which is the first that
--- it lacks.
+-- it lacks: the tree has a path, or its start, for each terminal before it.
 pub record IsStuckBefore (n : AbstractNetlist) (l : Library) (net : Numbering) (p : Placement) (instances : List Instance) (metals : ℕ)
     (routes : NetRoutes) (k : ℕ) (terminal : Terminal) : Type 0 where
   pub earlier : List ℕ
@@ -53,3 +54,4 @@ pub record IsStuckBefore (n : AbstractNetlist) (l : Library) (net : Numbering) (
   pub named : slice_get (net_terminals n l net p instances k) at ≡ Some terminal
   pub numbered : slice_get (net_nodes n l net p instances k) at ≡ Some point
   pub stuck : IsStuckAt (grid_over metals l p) (reserved n l net p instances) (net_nodes n l net p instances) (net_count n) routes earlier later k point
+  pub number : suc (length stuck.tree.paths) ≡ at

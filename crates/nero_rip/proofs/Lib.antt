@@ -1,3 +1,4 @@
+mod Apart
 mod Moved
 mod Named
 mod Seen

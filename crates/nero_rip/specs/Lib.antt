@@ -1,2 +1,3 @@
 pub mod Rips
 pub mod Answers
+pub mod Law

@@ -2,9 +2,11 @@
 #![tactic(auto)]
 
 mod error;
+mod law;
 mod rip;
 mod route;
 
 pub use error::RipError;
+pub use law::placed_trees_stay_apart;
 pub use rip::{Rerouted, Rip, Rips};
 pub use route::route_with_rips;

@@ -11,7 +11,6 @@ use Rattle.cell_pins.specs.Table.{IsTableOf}
 use Rattle.net_core.specs.declared.pins.ModelPins.{ModelPins}
 use Rattle.net_core.specs.Netlist.{Netlist}
 use Rattle.ocp_place.specs.Placed.{InRow}
-use Rattle.ocp_place.proofs.Classes.{known, known_seen}
 use Rattle.ocp_figure.specs.Answers.{HasNoPlacement}
 use Rattle.tool_drive.specs.declared.status.Status.{Status}
 use Rattle.tool_drive.specs.declared.status.Status.TheVariants as status
@@ -69,7 +68,7 @@ module _ (c : Asked) (t : Texts) (l : Library) (table : List ModelPins) where
 
 -- a grid with too many nodes
 pub by_grid : (c : Asked) (t : Texts) (l : Library) (n : Netlist) (p : InRow) (g : IsGiven t l n p) (s : Status) → IsOverGrid l n p c.metals s → IsFair s None (IsPlainRefusal c t s)
-by_grid c t l n p g s h = told s (h (known n) (known_seen n g.placed.placed.drawable.sound)).1 h where
+by_grid c t l n p g s h = told s h.3 h where
   told : (s : Status) {limit : _} → s ≡ status.Limit limit → IsOverGrid l n p c.metals s → IsFair s None (IsPlainRefusal c t s)
   told s {limit} e h =
       subst (λ (x : Status). IsOverGrid l n p c.metals x → IsFair x None (IsPlainRefusal c t x)) (sym e)

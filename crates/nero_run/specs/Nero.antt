@@ -67,8 +67,8 @@ pub data IsUnplaced (file bytes : List ℕ) (l : Library) (n : Netlist) (s : Sta
 -- The grid over the rows has more nodes than 32 bits can number beside one number that stands for none; that many are told.
 abbrev pub IsOverGrid : Library → Netlist → InRow → ℕ → Status → Type 0
 IsOverGrid l n p metals s =
-    (k : Seen) → IsSeenAs n k
-    → (4294967295 ≤ nodes (grid_of metals k l p)) × (s ≡ status.Limit (record { which = Size; reached = nodes (grid_of metals k l p) }))
+    (k : Seen) × IsSeenAs n k × (4294967295 ≤ nodes (grid_of metals k l p))
+    × (s ≡ status.Limit (record { which = Size; reached = nodes (grid_of metals k l p) }))
 
 -- a library, a netlist and its placement, as they are read
 pub record IsGiven (t : Texts) (l : Library) (n : Netlist) (p : InRow) : Type 0 where

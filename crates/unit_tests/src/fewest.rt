@@ -59,11 +59,14 @@ fn door(state: usize, reset: bool) -> bool {
     state == 4 && !reset
 }
 
-/// Whether some of the vectors, each of which has `k` and then `reset`, leads the two states to different outputs.
-fn tell(first: usize, second: usize, vectors: &[Bits]) -> bool {
+/// Whether some of the vectors of these numbers, each of which has `k` and then `reset`, leads the two states to different outputs.
+fn tell(first: usize, second: usize, vectors: &[Bits], test: &[u32]) -> bool {
     let mut p = first;
     let mut q = second;
-    for vector in vectors {
+    for number in test {
+        let Some(vector) = vectors.get(*number as usize) else {
+            return false;
+        };
         let [k, reset] = vector.as_slice() else {
             return false;
         };
@@ -77,13 +80,13 @@ fn tell(first: usize, second: usize, vectors: &[Bits]) -> bool {
 }
 
 /// The two states of each pair, and `+` where its test tells them and has no more vectors than there are states.
-fn told(alloc: Global, tests: &[TestRow]) -> Result<Vec<u8>, AllocError> {
+fn told(alloc: Global, vectors: &[Bits], tests: &[TestRow]) -> Result<Vec<u8>, AllocError> {
     let mut text = Vec::new(alloc);
     for (q, row) in tests.iter().enumerate() {
         for (p, test) in row.as_slice().iter().enumerate() {
             text.push(b'0' + (p % 10) as u8)?;
             text.push(b'0' + (q % 10) as u8)?;
-            if tell(p, q, test.as_slice()) && test.as_slice().len() <= tests.len() {
+            if tell(p, q, vectors, test.as_slice()) && test.as_slice().len() <= tests.len() {
                 text.push(b'+')?;
             }
             text.push(b' ')?;
@@ -114,7 +117,7 @@ fn a_state_that_does_the_same_becomes_the_first(rt: HostRuntime) -> Result<(), F
 fn a_test_tells_each_pair(rt: HostRuntime) -> Result<(), Fail> {
     match fewest(rt.alloc()) {
         Some(made) => {
-            let told = told(rt.alloc(), made.tests.as_slice())?;
+            let told = told(rt.alloc(), made.vectors.as_slice(), made.tests.as_slice())?;
             assert_eq!(rt; &told[..], &b"01+ 02+ 12+ 03+ 13+ 23+ 04+ 14+ 24+ 34+ "[..]);
         }
         None => assert!(rt; false, "the text is refused"),

@@ -1,6 +1,7 @@
 //! Tests of single calls that no run of a tool shows: what a text is cut into, a reader's small calls, orders and rings, values and
 //! sizes of expressions, bits that diagrams pick, gaps, rectangles of pins, numbers, what lists give back, a state machine that is
-//! written, states that become one and the tests of the others, and the shelves and sinks by themselves.
+//! written, states that become one and the tests of the others, cuts within trees and bounds on their area, and the shelves and
+//! sinks by themselves.
 #![tactic(auto)]
 
 #[cfg(test)]
@@ -27,3 +28,5 @@ mod shelves;
 mod states;
 #[cfg(test)]
 mod texts;
+#[cfg(test)]
+mod trees;

@@ -6,7 +6,7 @@ use Rattle.boog_tree.proofs.cuts.join_with.Goals as goal
 use Rattle.boog_tree.proofs.cuts.join_with.Goals.{in-Some+in_ok-push, in_default}
 
 pub loop-second-preserved : goal.loop-second-preserved
-loop-second-preserved c =
+loop-second-preserved g c =
     let old = c.args.cuts.now.items in
     let a = c.args.first.now in
     let seconds = c.args.seconds.now in

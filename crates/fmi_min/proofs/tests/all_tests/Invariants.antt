@@ -7,5 +7,5 @@ use Rattle.fmi_min.proofs.tests.all_tests.Given as goal
 abbrev pub invariant-loop-q : goal.invariant-loop-q
 invariant-loop-q l = record {
   each : length l.tests.items ≡ l.q;
-  told : (k : ℕ) → k < length l.tests.items → AreTestsWith l.by.rows.now l.by.levels.now l.vectors k (slice_index_or l.tests.items k []);
+  told : (k : ℕ) → k < length l.tests.items → AreTestsWith l.by.rows.now l.by.levels.now k (slice_index_or l.tests.items k []);
 }

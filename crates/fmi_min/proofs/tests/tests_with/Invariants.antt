@@ -8,5 +8,5 @@ abbrev pub invariant-loop-p : goal.invariant-loop-p
 invariant-loop-p l = record {
   each : length l.row.items ≡ l.p;
   told : (k : ℕ) → k < length l.row.items
-      → TellsApart l.by.rows.now l.by.levels.now l.vectors (kept_at l.by.levels.now k) (kept_at l.by.levels.now l.q) (slice_index_or l.row.items k []);
+      → TellsApart l.by.rows.now l.by.levels.now (kept_at l.by.levels.now k) (kept_at l.by.levels.now l.q) (slice_index_or l.row.items k []);
 }

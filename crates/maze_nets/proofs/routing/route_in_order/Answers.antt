@@ -1,7 +1,8 @@
-use Rattle.std.proofs.Common.{ℕ, ◌≡◌, ◌+◌, List, length, take, drop, arith, sym, subst}
+use Rattle.std.proofs.Common.{ℕ, suc, ◌≡◌, ◌+◌, ◌∙◌, List, Some, length, take, drop, ap, arith, sym, subst}
 use Rattle.std.specs.Prelude.{reverse, slice_index_or}
 use Rattle.std.proofs.lemmas.List.{take_all}
 use Rattle.grid_core.specs.declared.grid.Grid.{Grid}
+use Rattle.grid_core.specs.Routes.{Tree}
 use Rattle.grid_core.specs.Trees.{IsNetOrder}
 use Rattle.maze_nets.specs.Nets.{half_perimeter}
 use Rattle.maze_nets.specs.Progress.{IsOrderly, HasRouted}
@@ -41,15 +42,19 @@ returns-in-Some-clause-stuck c =
     let inv = c.loop-net.invariant in
     let stops = c.in-Some.ensures.stops in
     let orderly = subst (λ (h : Grid). IsOrderly h nets c.route_net.new.router) inv.orderly.owners.grid c.route_net.ensures.orderly in
+    let stuck = stuck_at c.args.router.now.occupied.grid nets (reverse (take i order)) k c.loop-net.router c.route_net.new.router inv
+    (not_before half (length nets) order c.requires.order i c.loop-net-test.true) orderly c.route_net.ensures.grows
+    c.in-Some.point (drop (i + 1) order) (not_after half (length nets) order c.requires.order i c.loop-net-test.true) stops in
+    let both : Some stuck.tree ≡ Some stops.tree = sym stuck.begun ∙ stops.begun in
+    let same : stuck.tree ≡ stops.tree = cc both in
     record {
       earlier = reverse (take i order);
       later = drop (i + 1) order;
       sorted = subst (IsNetOrder half (length nets)) (sym (order_split order i c.loop-net-test.true)) c.requires.order;
       point = stops.point;
       numbered = stops.next;
-      stuck = stuck_at c.args.router.now.occupied.grid nets (reverse (take i order)) k c.loop-net.router c.route_net.new.router inv
-          (not_before half (length nets) order c.requires.order i c.loop-net-test.true) orderly c.route_net.ensures.grows
-          c.in-Some.point (drop (i + 1) order) (not_after half (length nets) order c.requires.order i c.loop-net-test.true) stops;
+      stuck = stuck;
+      number = ap (λ (t : Tree). suc (length t.paths)) same ∙ stops.reached;
     }
 
 pub loop-net-preserved : goal.loop-net-preserved

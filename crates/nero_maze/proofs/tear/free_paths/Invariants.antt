@@ -1,6 +1,8 @@
+use Rattle.std.proofs.Common.{ℕ, ◌≡◌, ◌<◌, slice_index}
 use Rattle.nero_maze.specs.Search.{reserved_in}
-use Rattle.nero_maze.proofs.Shortening.{Frees}
+use Rattle.nero_maze.specs.Ripping.{IsFreedFrom}
 use Rattle.nero_maze.proofs.tear.free_paths.Given as goal
 
-abbrev pub invariant-loop-node : goal.invariant-loop-node
-invariant-loop-node l = Frees l.net (reserved_in l.fn.room.owners.items l.reserved.items) l.fn.room l.room l.node
+abbrev pub invariant-loop-at : goal.invariant-loop-at
+invariant-loop-at l = IsFreedFrom l.net (reserved_in l.fn.room.owners.items l.reserved.items)
+    (λ v. (i : ℕ) × (i < l.at) × (slice_index l.log.order.items i ≡ v)) l.fn.room l.room
