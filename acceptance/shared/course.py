@@ -7,7 +7,7 @@ import time
 from typing import NamedTuple
 
 from acceptance.running.places import CELLS, EXAMPLES
-from acceptance.running.results import Results, Room
+from acceptance.running.results import Room
 from acceptance.shared import layouts, pages
 from share.formats import files, lefdef
 from share.formats.extraction import instances_of

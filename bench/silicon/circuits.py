@@ -3,7 +3,7 @@
 import subprocess
 import sys
 
-from .program import TOP, Refused
+from .program import TOP
 
 sys.path.insert(0, str(TOP / "bench"))
 import course_circuits  # noqa: E402
@@ -30,5 +30,5 @@ def brought(source, folder):
     words = [sys.executable, TOP / "share/synth", source.stem, source, "-o", made, "--sync-reset"]
     done = subprocess.run(words, capture_output=True, text=True)
     if done.returncode:
-        raise Refused(done.stderr.strip())
+        sys.exit(done.stderr.strip())
     return made

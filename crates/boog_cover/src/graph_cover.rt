@@ -128,8 +128,8 @@ fn covered<const K: usize>(
     tightened(alloc, cells, table, gates, held as usize, roots)
 }
 
-/// A cover with other gates than `covered` gives, made narrower step by step; None where it has too many pins, or more columns than the
-/// one that was begun with. Takes memory for the cuts of each node.
+/// A cover whose nodes get other gates, step by step, before pairs are put into one; None where it has too many pins, more columns than
+/// the one that was begun with, or a gate that reads a node that no root of the graph needs. Takes memory for the cuts of each node.
 fn lesser_cover<const K: usize>(
     alloc: Global,
     cells: &[CellWord],
@@ -199,8 +199,9 @@ fn wide_cover(
 
 /// Gates of cells that cover the graph, whose first node has number `held`; no cell stands for any pair of them, and together they
 /// have at most two pins for each node. Each node's gate is the one of least area, each shared among those that read it; of cells that
-/// compute one word the first is taken, so the cells are given by rising area, and `areas` in the same order. Where cuts of more than
-/// two leaves give too many pins, each gate has two. Takes memory for the cuts of each node and for the cells' orders.
+/// compute one word the first is taken, so the cells are given by rising area, and `areas` in the same order. Then nodes get other gates
+/// over other nodes, step by step, where this takes fewer columns. Where that or cuts of more than two leaves give too many pins, it is
+/// left out, or each gate has two. Takes memory for the cuts of each node and for the cells' orders.
 pub fn cover(
     alloc: Global,
     cells: &[CellWord],

@@ -1,5 +1,5 @@
 -- The last partition of a machine's states is closed, and its tests tell states apart.
-use Rattle.std.proofs.Common.{◌≡◌, ℕ, ◌<◌, ◌≤◌, ◌^◌, Bool, List, [], ◌∷◌, map, length, Some, ◌⊎◌, inl, inr, refl, sym, ap, subst, ◌∙◌, arith}
+use Rattle.std.proofs.Common.{◌≡◌, ℕ, ◌<◌, ◌≤◌, ◌^◌, Bool, List, map, length, Some, sym, ap, subst, ◌∙◌, arith}
 use Rattle.std.proofs.lemmas.Nat.{pow_below}
 use Rattle.fsm_machine.specs.Fsm.{Fsm, walked_next}
 use Rattle.fsm_core.specs.Checked.{IsCheckedFsm}
@@ -8,7 +8,7 @@ use Rattle.fsm_merge.specs.Numbering.{nth}
 use Rattle.fsm_merge.proofs.Fewest.{IsClosed}
 use Rattle.fmi_refine.specs.declared.round.Move.{Move}
 use Rattle.fmi_refine.specs.declared.round.Partition.{Partition}
-use Rattle.fmi_refine.specs.Rows.{row_at, move_at, vectors_of, AreRows}
+use Rattle.fmi_refine.specs.Rows.{move_at, vectors_of, AreRows}
 use Rattle.fmi_refine.specs.Refined.{last_level, IsStable}
 use Rattle.fmi_min.specs.Table.{vectors_read, step_under, IsTable}
 use Rattle.fmi_min.proofs.Stepping.{some_number, outputs_under, next_under, step_below}

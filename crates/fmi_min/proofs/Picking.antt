@@ -1,5 +1,5 @@
 -- Vectors of the inputs stand for bits of the ports.
-use Rattle.std.proofs.Common.{◌≡◌, ℕ, zero, suc, ◌<◌, Bool, true, false, List, [], ◌∷◌, ◌++◌, ◌+◌, map, filter, take, get_or, min, length, Some, unwrap_or, inl, inr, if◌then◌else◌, refl, sym, ap, subst, ◌∙◌, arith}
+use Rattle.std.proofs.Common.{◌≡◌, ℕ, zero, suc, ◌<◌, Bool, true, false, List, [], ◌∷◌, ◌++◌, ◌+◌, filter, take, get_or, min, length, Some, unwrap_or, inl, inr, if◌then◌else◌, refl, sym, ap, subst, ◌∙◌, arith}
 use Rattle.std.specs.List.{slice_get}
 use Rattle.std.proofs.lemmas.List.{length-take, take_more}
 use Rattle.vlsi_base.specs.declared.name.Name.{Name}
@@ -10,7 +10,7 @@ use Rattle.machine_core.specs.Named.{is_same_name, value_at}
 use Rattle.machine_core.specs.Machine.{names_of}
 use Rattle.machine_core.proofs.Names.{same_name-itself, same_name-false}
 use Rattle.fsm_machine.specs.Fsm.{Fsm, fsm_inputs, seen}
-use Rattle.fsm_core.specs.Checked.{IsInput, IsCheckedFsm}
+use Rattle.fsm_core.specs.Checked.{IsCheckedFsm}
 use Rattle.fsm_walk.specs.Reads.{read_marks}
 use Rattle.fsm_walk.specs.Words.{SameAt}
 use Rattle.fsm_walk.proofs.Over.{reads_inputs}

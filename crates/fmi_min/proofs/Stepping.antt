@@ -1,12 +1,11 @@
 -- Steps of a checked machine under numbered vectors, and steps of its runs.
-use Rattle.std.proofs.Common.{◌≡◌, ℕ, ◌+◌, ◌<◌, ◌≤◌, ◌^◌, Bool, List, [], ◌∷◌, map, length, Some, refl, sym, ap, subst, ◌∙◌, arith}
-use Rattle.fsm_machine.specs.Walk.{walk, given_next}
+use Rattle.std.proofs.Common.{◌≡◌, ℕ, ◌<◌, Bool, List, map, length, Some, sym, ap, subst, ◌∙◌}
 use Rattle.fsm_machine.specs.Fsm.{Fsm, fsm_outputs, seen, walked_next, walked_output}
 use Rattle.fsm_core.specs.Checked.{IsCheckedFsm}
 use Rattle.fsm_walk.specs.declared.step.Step.{Step}
 use Rattle.fsm_walk.specs.Step.{step_of}
 use Rattle.fsm_walk.specs.Words.{word, SameAt}
-use Rattle.fsm_walk.specs.Reads.{read_marks, count_of}
+use Rattle.fsm_walk.specs.Reads.{read_marks}
 use Rattle.fsm_walk.proofs.Trailing.{step_walk}
 use Rattle.fsm_walk.proofs.Reading.{alone}
 use Rattle.fsm_walk.proofs.Wording.{words_all}

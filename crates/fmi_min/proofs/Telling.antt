@@ -1,8 +1,8 @@
 -- Vectors that tell two rows apart tell the states apart.
-use Rattle.std.proofs.Common.{◌≡◌, ℕ, suc, ◌-◌, ◌/◌, ◌<◌, ◌≤◌, Bool, List, [], ◌∷◌, map, length, Some, true, false, ◌⊎◌, inl, inr, refl, sym, ap, subst, ◌∙◌, arith}
+use Rattle.std.proofs.Common.{◌≡◌, ℕ, suc, ◌-◌, ◌/◌, ◌<◌, Bool, List, [], ◌∷◌, map, length, Some, true, false, ◌⊎◌, inl, inr, refl, sym, ap, subst, ◌∙◌, arith}
 use Rattle.std.specs.List.{All, AllByRecursion, slice_index_or}
 use Rattle.std.proofs.lemmas.List.{length-map}
-use Rattle.fsm_machine.specs.Fsm.{Fsm, fsm_inputs, fsm_outputs, walked_next, FsmRun}
+use Rattle.fsm_machine.specs.Fsm.{Fsm, fsm_inputs, walked_next, FsmRun}
 use Rattle.fsm_machine.specs.MachineOf.{up}
 use Rattle.fsm_core.specs.Checked.{IsCheckedFsm}
 use Rattle.fsm_walk.specs.Words.{word}
@@ -14,7 +14,7 @@ use Rattle.fsm_merge.specs.Merged.{merged_fsm}
 use Rattle.fsm_merge.specs.Runs.{Differ}
 use Rattle.fsm_merge.specs.Fewest.{IsFewest}
 use Rattle.fsm_merge.proofs.Running.{each_run}
-use Rattle.fsm_merge.proofs.Fewest.{AreTests, fewest}
+use Rattle.fsm_merge.proofs.Fewest.{fewest}
 use Rattle.syf_machine.proofs.Lists.{all_by, in_map}
 use Rattle.fmi_refine.specs.declared.round.Move.{Move}
 use Rattle.fmi_refine.specs.declared.round.Partition.{Partition}
@@ -23,10 +23,10 @@ use Rattle.fmi_refine.specs.Refined.{last_level, AreLevels, IsStable, Tells}
 use Rattle.fmi_refine.proofs.Leading.{tells_numbers}
 use Rattle.fmi_min.specs.Vectors.{picked}
 use Rattle.fmi_min.specs.Table.{vectors_read, words_read, vector, step_under, IsTable}
-use Rattle.fmi_min.specs.Tests.{test_of, numbered, vectors_of_test, TellsApart, kept_at, AreAllTests}
+use Rattle.fmi_min.specs.Tests.{test_of, numbered, vectors_of_test, TellsApart, AreAllTests}
 use Rattle.fmi_min.proofs.Listing.{made_at}
 use Rattle.fmi_min.proofs.Picking.{picked_length, seen_picked}
-use Rattle.fmi_min.proofs.Stepping.{IsUnder, outputs_under, next_under, step_below}
+use Rattle.fmi_min.proofs.Stepping.{IsUnder, outputs_under, next_under}
 use Rattle.fmi_min.proofs.Closing.{vectors_are, closed}
 
 -- ---- numbered vectors

@@ -1,5 +1,5 @@
 -- The moves of steps.
-use Rattle.std.specs.Prelude.{◌≡◌, ◌<◌, ℕ, Bool, true, false, List, [], ◌∷◌, length, map}
+use Rattle.std.specs.Prelude.{◌≡◌, ◌<◌, ℕ, Bool, true, false, List, [], length, map}
 use Rattle.std.specs.List.{slice_index_or}
 use Rattle.net_core.specs.Places.{Stands}
 use Rattle.fsm_walk.specs.declared.step.Step.{Step}

@@ -1,8 +1,8 @@
 -- Right moves keep the trees of nets apart.
-use Rattle.std.proofs.Common.{◌≡◌, ◌≢◌, ℕ, ◌<◌, ◌⊎◌, inl, inr, ⊎_elim, List, [], ◌∷◌, ◌++◌, length, Option, Some, None, refl, sym, ap, ◌∙◌, subst, nat_eq, if◌then◌else◌}
+use Rattle.std.proofs.Common.{◌≡◌, ◌≢◌, ℕ, ◌<◌, inl, inr, ⊎_elim, List, [], ◌∷◌, ◌++◌, Option, Some, None, refl, sym, ap, ◌∙◌, subst}
 use Rattle.std.specs.Prelude.{flat_map, slice_get}
 use Rattle.std.proofs.lemmas.Bool.{cases_eq, eq-eqb, ne_eqb}
-use Rattle.vlsi_base.specs.Member.{In, here, there}
+use Rattle.vlsi_base.specs.Member.{In}
 use Rattle.grid_core.specs.declared.grid.Node.{Node}
 use Rattle.grid_core.specs.Grid.{IsPath, LeadsBack}
 use Rattle.grid_core.specs.Routes.{Tree, NetRoutes, tree_nodes}
@@ -12,7 +12,6 @@ use Rattle.grid_core.proofs.Lists.{In_either}
 use Rattle.grid_core.proofs.Owners.{first_or}
 use Rattle.nero_maze.specs.Routing.{first_alone}
 use Rattle.maze_nets.proofs.Lists.{get_in}
-use Rattle.maze_rips.specs.declared.rip.PointRip.{PointRip}
 use Rattle.maze_rips.specs.Run.{Problem, Move, Begins, Joins, Rips, routes_after, without_paths, AreMoves}
 use Rattle.maze_rips.specs.Law.{HasOwnPoints, MovesKeepTreesApart}
 use Rattle.maze_rips.proofs.Working.{alone_nodes, tree_looser, tree_alone}

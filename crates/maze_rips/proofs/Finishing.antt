@@ -1,9 +1,8 @@
 -- Nets get all their points, in order.
-use Rattle.std.proofs.Common.{◌≡◌, ◌≢◌, ℕ, ◌<◌, ◌≤◌, ◌+◌, inl, inr, ⊎_elim, List, [], ◌∷◌, ◌++◌, length, take, drop, Option, Some, None, refl, sym, ap, ◌∙◌, subst, arith}
+use Rattle.std.proofs.Common.{◌≡◌, ◌≢◌, ℕ, ◌<◌, ◌≤◌, ◌+◌, inl, inr, ⊎_elim, List, [], ◌∷◌, ◌++◌, length, take, drop, Option, Some, None, sym, ap, ◌∙◌, subst}
 use Rattle.std.specs.Prelude.{IfSome, slice_get, slice_index_or}
 use Rattle.std.proofs.lemmas.Bool.{cases_eq}
 use Rattle.std.proofs.lemmas.List.{take_more, take_all, drop_more, take-append-drop}
-use Prim.Native.Nat.{suc}
 use Rattle.vlsi_base.specs.Member.{In}
 use Rattle.grid_core.specs.declared.grid.Node.{Node}
 use Rattle.grid_core.specs.Routes.{Tree, NetRoutes}
@@ -17,9 +16,9 @@ use Rattle.maze_rips.specs.declared.rip.PointRip.{PointRip}
 use Rattle.maze_rips.specs.declared.work.Stuck.{Stuck}
 use Rattle.maze_rips.specs.declared.work.Task.{Task}
 use Rattle.maze_rips.specs.declared.work.Work.{Work}
-use Rattle.maze_rips.specs.Run.{Problem, last_stuck, IsServed, HasTurn, again, next, IsStuck, IsSpent, IsPathPast}
+use Rattle.maze_rips.specs.Run.{Problem, last_stuck, IsServed, again, next, IsStuck, IsSpent, IsPathPast}
 use Rattle.maze_rips.specs.Progress.{problem_of, IsTask, IsUnderWay, IsBeginning}
-use Rattle.maze_rips.proofs.Known.{last_among, rips_known, stuck_known}
+use Rattle.maze_rips.proofs.Known.{last_among, rips_known}
 
 -- the net of the last rip is one of those that there are
 pub last_known : (t : Task) (w : Work) (k : ℕ) → IsUnderWay t w → last_stuck w.rips.items ≡ Some k → k < length t.nets.now

@@ -1,9 +1,9 @@
 -- What is free for a net by the owners of nodes, and what by trees and reserved nodes.
-use Rattle.std.proofs.Common.{◌≡◌, ◌≢◌, ℕ, ◌<◌, ◌≤◌, ◌⊎◌, inl, inr, ⊎_elim, List, [], ◌∷◌, ◌++◌, length, Option, Some, None, refl, sym, ap, ◌∙◌, subst, arith}
+use Rattle.std.proofs.Common.{◌≡◌, ℕ, ◌<◌, ◌⊎◌, inl, inr, ⊎_elim, List, [], ◌∷◌, ◌++◌, length, Option, Some, None, refl, sym, ap, ◌∙◌, subst, arith}
 use Rattle.std.specs.Prelude.{◌↔◌, slice_get}
 use Rattle.std.proofs.lemmas.Bool.{cases_eq, cases_lt}
 use Prim.Native.Nat.{suc}
-use Rattle.vlsi_base.specs.Member.{In, here, there, AllDifferent}
+use Rattle.vlsi_base.specs.Member.{In, AllDifferent}
 use Rattle.grid_core.specs.declared.grid.Grid.{Grid}
 use Rattle.grid_core.specs.declared.grid.Node.{Node}
 use Rattle.grid_core.specs.Grid.{IsInGrid, IsPath}
@@ -17,7 +17,7 @@ use Rattle.maze_nets.specs.Nets.{net_reserved}
 use Rattle.maze_nets.specs.Progress.{AreReserved, AreOwned}
 use Rattle.maze_nets.proofs.Lists.{some_same, reserved_below, get_in, get_below}
 use Rattle.maze_nets.proofs.Owning.{free_for, free_in_grid}
-use Rattle.maze_rips.specs.Run.{Problem, IsFreePast}
+use Rattle.maze_rips.specs.Run.{IsFreePast}
 use Rattle.maze_rips.specs.Answers.{problem}
 
 -- a net whose tree has a node is one of those that there are

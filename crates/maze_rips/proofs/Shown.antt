@@ -1,5 +1,5 @@
 -- What is true of the trees of a router is true of its routes.
-use Rattle.std.proofs.Common.{◌≡◌, ℕ, ◌≤◌, List, Option, length, subst}
+use Rattle.std.proofs.Common.{ℕ, ◌≤◌, List, Option, length, subst}
 use Rattle.grid_core.specs.Routes.{Tree, NetRoutes}
 use Rattle.grid_core.specs.Shown.{tree_in}
 use Rattle.grid_core.specs.Trees.{AreWhole}
@@ -9,7 +9,7 @@ use Rattle.maze_nets.proofs.Shown.{same_routes}
 use Rattle.maze_rips.specs.declared.work.Task.{Task}
 use Rattle.maze_rips.specs.declared.work.Work.{Work}
 use Rattle.maze_rips.specs.Run.{IsSpent}
-use Rattle.maze_rips.specs.Answers.{HasRun, AreRipped, AreStuck}
+use Rattle.maze_rips.specs.Answers.{AreRipped, AreStuck}
 use Rattle.maze_rips.specs.Progress.{problem_of, IsTask, IsUnderWay}
 
 module _ (t : Task) (task : IsTask t) (w : Work) (allowed : ℕ) (trees : List (Option Tree)) (are : AreTrees (length t.nets.now) w.router trees) (u : IsUnderWay t w)

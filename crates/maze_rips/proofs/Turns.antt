@@ -1,17 +1,17 @@
 -- Whose turn it is, and runs that go on by one move.
-use Rattle.std.proofs.Common.{◌≡◌, ◌≢◌, ℕ, inl, inr, List, [], ◌∷◌, ◌++◌, length, Option, Some, None, refl, sym, ap, ◌∙◌, subst, nat_eq, if◌then◌else◌}
+use Rattle.std.proofs.Common.{◌≡◌, ◌≢◌, ℕ, inl, inr, List, [], ◌∷◌, ◌++◌, Option, Some, None, sym, ap, ◌∙◌, subst, nat_eq, if◌then◌else◌}
 use Rattle.std.specs.Prelude.{◌↔◌}
 use Rattle.std.proofs.lemmas.Bool.{cases_eq}
 use Rattle.vlsi_base.specs.Member.{In}
 use Rattle.grid_core.specs.declared.grid.Node.{Node}
-use Rattle.grid_core.specs.Grid.{IsPath, IsLeastPath}
+use Rattle.grid_core.specs.Grid.{IsLeastPath}
 use Rattle.grid_core.specs.Routes.{Tree, NetRoutes, tree_nodes, grown, with_start, with_path}
 use Rattle.grid_core.specs.Trees.{IsWhole, next_point}
 use Rattle.nero_maze.specs.Routing.{first_alone, IsFirstTaken}
 use Rattle.maze_nets.proofs.Growth.{path_moved, least_moved}
 use Rattle.maze_rips.specs.declared.rip.PointRip.{PointRip}
-use Rattle.maze_rips.specs.Run.{Problem, Begins, Joins, Rips, routes_after, rips_among, without_paths, last_stuck, IsServed, HasTurn, again, next, IsDue, IsFreeNow, IsFreePast, IsPathPast, IsStuck, IsInTheWay, AreMoves, IsRipRun}
-use Rattle.maze_rips.proofs.Freedom.{free_turned, not_whole}
+use Rattle.maze_rips.specs.Run.{Problem, Begins, Joins, Rips, routes_after, rips_among, without_paths, last_stuck, IsServed, HasTurn, again, next, IsDue, IsFreeNow, IsFreePast, IsPathPast, IsStuck, IsInTheWay, IsRipRun}
+use Rattle.maze_rips.proofs.Freedom.{free_turned}
 
 -- ---- trees that are the same for each net
 module _ (p : Problem) (rips other_rips : List PointRip) (routes other : NetRoutes) (same_rips : rips ≡ other_rips) (same : (j : ℕ) → routes j ≡ other j) where

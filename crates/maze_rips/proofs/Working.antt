@@ -1,31 +1,30 @@
 -- What is true between two moves stays true.
 use Rattle.std.proofs.Common.{◌≡◌, ◌≢◌, ℕ, ◌<◌, ◌≤◌, ◌+◌, ◌⊎◌, inl, inr, ⊎_elim, List, [], ◌∷◌, ◌++◌, length, set, slice_index, Option, Some, None, refl, sym, ap, ◌∙◌, subst, arith, get_or-set_same, get_or-set_other, length-set, get_or, if◌then◌else◌, nat_eq, zero}
-use Rattle.std.specs.Prelude.{◌↔◌, slice_get}
+use Rattle.std.specs.Prelude.{slice_get}
 use Rattle.std.proofs.lemmas.Bool.{cases_eq, eq-eqb, ne_eqb}
 use Rattle.std.proofs.lemmas.List.{length-append}
 use Prim.Native.Nat.{suc}
 use Rattle.vlsi_base.specs.Member.{In, here}
 use Rattle.grid_core.specs.declared.grid.Grid.{Grid}
 use Rattle.grid_core.specs.declared.grid.Node.{Node}
-use Rattle.grid_core.specs.Grid.{IsInGrid, IsPath, IsLeastPath}
+use Rattle.grid_core.specs.Grid.{IsInGrid, IsPath}
 use Rattle.grid_core.specs.Owners.{owner_of, IsFree}
-use Rattle.grid_core.specs.Routes.{Tree, NetRoutes, tree_nodes, grown, with_start, with_path}
+use Rattle.grid_core.specs.Routes.{Tree, tree_nodes, grown, with_start, with_path}
 use Rattle.grid_core.specs.Trees.{IsFreeFor, Reach, IsTreeOver, IsWhole, AreRoutes, next_point}
 use Rattle.grid_core.proofs.Growing.{routes_begin, routes_grow, path_either, grown_nodes}
 use Rattle.grid_core.proofs.Owners.{first_or}
-use Rattle.nero_maze.specs.Routing.{Routing, Began, Joined, routes_of, tree_of, NoneFrom, IsPoint, Begins, Connects, first_alone, IsFirstTaken, TakesOut, Blocks}
+use Rattle.nero_maze.specs.Routing.{Routing, Began, Joined, routes_of, tree_of, NoneFrom, IsPoint, Begins, Connects, first_alone, TakesOut, Blocks}
 use Rattle.maze_nets.specs.declared.points.NetPoints.{NetPoints}
 use Rattle.maze_nets.specs.Nets.{net_points, net_reserved, AreRoutable}
 use Rattle.maze_nets.specs.Progress.{AreReserved, AreOwned, IsOrderly, HasRouted}
-use Rattle.maze_nets.proofs.Lists.{some_same, cases_in, point_reserved, get_in}
+use Rattle.maze_nets.proofs.Lists.{some_same, cases_in}
 use Rattle.maze_nets.proofs.Growth.{path_moved, least_moved, grown_old, grown_new}
-use Rattle.maze_nets.proofs.Owning.{Takes, tree_free, free_in_grid, free_for, owned_still}
+use Rattle.maze_nets.proofs.Owning.{Takes, tree_free, free_for, owned_still}
 use Rattle.maze_nets.proofs.Running.{began_here, began_other, joined_here, joined_other, point_free}
 use Rattle.maze_rips.specs.declared.rip.PointRip.{PointRip}
 use Rattle.maze_rips.specs.declared.work.Task.{Task}
 use Rattle.maze_rips.specs.declared.work.Work.{Work}
-use Rattle.maze_rips.specs.Run.{Problem, without_paths, HasTurn, IsDue, IsFreeNow, IsFreePast, IsPathPast, IsStuck, IsInTheWay, IsRipRun}
-use Rattle.maze_rips.specs.Answers.{problem}
+use Rattle.maze_rips.specs.Run.{without_paths, HasTurn, IsDue, IsFreeNow, IsFreePast, IsPathPast, IsStuck, IsInTheWay, IsRipRun}
 use Rattle.maze_rips.specs.Progress.{problem_of, IsTask, points_in, IsUnderWay, IsBeginning, IsFinishing}
 use Rattle.maze_rips.proofs.Freedom.{has_tree, free_iff, for_free, past_iff, next_is_new, not_whole}
 use Rattle.maze_rips.proofs.Turns.{first_moved, turn_kept, began_run, joined_run, ripped_run}

@@ -1,5 +1,5 @@
 -- What is true between two moves.
-use Rattle.std.specs.Prelude.{◌≡◌, ◌≢◌, ℕ, ◌<◌, List, None, Some, Option, length, slice_index}
+use Rattle.std.specs.Prelude.{◌≡◌, ◌≢◌, ℕ, ◌<◌, None, Some, Option, length, slice_index}
 use Prim.Native.Nat.{suc}
 use Rattle.grid_core.specs.Routes.{Tree}
 use Rattle.grid_core.specs.Trees.{IsNetOrder}

@@ -1,5 +1,5 @@
 -- Trees of placed nets stay apart.
-use Rattle.std.proofs.Common.{List, ◌∷◌, [], ⊎_elim, sym, subst}
+use Rattle.std.proofs.Common.{List, ◌∷◌, [], ⊎_elim, subst}
 use Rattle.std.specs.List.{flat_map}
 use Rattle.vlsi_base.specs.Member.{In, here, there}
 use Rattle.grid_core.specs.declared.grid.Node.{Node}

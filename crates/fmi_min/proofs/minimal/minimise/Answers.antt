@@ -1,4 +1,4 @@
-use Rattle.std.proofs.Common.{◌≡◌, ◌<◌, ℕ, Bool, List, length, sym, ap, ◌∙◌, subst, arith}
+use Rattle.std.proofs.Common.{Bool, List, length, ap, ◌∙◌, arith}
 use Rattle.fmi_min.proofs.Telling.{marks_length}
 use Rattle.fmi_min.proofs.minimal.minimise.Goals as goal
 

@@ -1,4 +1,4 @@
-use Rattle.std.proofs.Common.{◌≡◌, ℕ, Bool, List, refl, ap, ◌∙◌, subst}
+use Rattle.std.proofs.Common.{ℕ, Bool, List, refl, ap, ◌∙◌, subst}
 use Rattle.net_core.specs.Places.{Stands}
 use Rattle.net_core.proofs.Growing.{learned_grows}
 use Rattle.fmi_min.specs.Moves.{digits}

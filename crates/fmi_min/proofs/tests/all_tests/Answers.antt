@@ -1,4 +1,4 @@
-use Rattle.std.proofs.Common.{◌≡◌, ◌∷◌, ◌++◌, ◌<◌, [], ℕ, List, length, length-append, sym, ap, ◌∙◌, subst, arith}
+use Rattle.std.proofs.Common.{◌≡◌, ◌∷◌, ◌<◌, [], ℕ, List, length, length-append, sym, ap, ◌∙◌, subst, arith}
 use Rattle.fmi_refine.specs.Refined.{last_level}
 use Rattle.std.specs.List.{slice_index_or}
 use Rattle.fmi_min.specs.Tests.{AreTestsWith, AreAllTests}

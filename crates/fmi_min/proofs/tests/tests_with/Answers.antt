@@ -1,4 +1,4 @@
-use Rattle.std.proofs.Common.{◌≡◌, ◌∷◌, ◌++◌, ◌<◌, [], ℕ, List, length, length-append, sym, ap, ◌∙◌, subst, arith}
+use Rattle.std.proofs.Common.{◌≡◌, ◌∷◌, ◌<◌, [], ℕ, List, length, length-append, sym, ap, ◌∙◌, subst, arith}
 use Rattle.fsm_merge.specs.Numbering.{nth}
 use Rattle.fmi_refine.specs.Refined.{last_level}
 use Rattle.std.specs.List.{slice_index_or}

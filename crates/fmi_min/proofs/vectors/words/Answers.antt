@@ -1,4 +1,4 @@
-use Rattle.std.proofs.Common.{◌≡◌, ◌∷◌, ◌++◌, ◌+◌, [], ℕ, suc, Bool, List, map, sym, ap, ◌∙◌, arith, add-one}
+use Rattle.std.proofs.Common.{◌≡◌, ◌∷◌, ◌++◌, [], ℕ, Bool, List, map, sym, ap, ◌∙◌, arith, add-one}
 use Rattle.fsm_machine.specs.MachineOf.{up}
 use Rattle.fsm_walk.specs.Words.{word}
 use Rattle.fmi_min.proofs.Listing.{made_more}

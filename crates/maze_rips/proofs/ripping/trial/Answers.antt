@@ -1,4 +1,4 @@
-use Rattle.std.proofs.Common.{◌≤◌, length, arith}
+use Rattle.std.proofs.Common.{arith}
 use Rattle.maze_rips.proofs.Shown.{ripped_shown}
 use Rattle.maze_rips.proofs.ripping.trial.Goals as goal
 

@@ -1,4 +1,4 @@
-use Rattle.std.proofs.Common.{◌<◌, ◌≡◌, ◌≢◌, length, slice_index, arith, refl, sym, ◌∙◌}
+use Rattle.std.proofs.Common.{◌<◌, length, arith, refl, sym, ◌∙◌}
 use Rattle.maze_nets.proofs.Running.{point_free}
 use Rattle.maze_rips.proofs.Working.{read_at, seated_work, begun_work, bare_tree}
 use Rattle.maze_rips.proofs.work.begin_tree.Goals as goal

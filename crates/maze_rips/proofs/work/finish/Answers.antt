@@ -1,5 +1,4 @@
-use Rattle.std.proofs.Common.{◌<◌, ◌≡◌, ◌≤◌, length, slice_index, arith, sym, ◌∙◌, ap, subst}
-use Rattle.maze_nets.specs.Nets.{net_points}
+use Rattle.std.proofs.Common.{◌<◌, length, arith, sym, ◌∙◌}
 use Rattle.maze_rips.proofs.Working.{read_at, no_points, finishing_whole, finishing_on}
 use Rattle.maze_rips.proofs.work.finish.Goals as goal
 

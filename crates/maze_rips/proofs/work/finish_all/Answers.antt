@@ -1,4 +1,4 @@
-use Rattle.std.proofs.Common.{ℕ, List, [], arith, refl, sym, ◌∙◌, subst}
+use Rattle.std.proofs.Common.{List, arith, sym, ◌∙◌, subst}
 use Rattle.std.specs.Prelude.{slice_index_or}
 use Rattle.nero_maze.specs.Routing.{tree_of}
 use Rattle.maze_rips.specs.declared.rip.PointRip.{PointRip}

@@ -1,4 +1,4 @@
-use Rattle.std.proofs.Common.{◌+◌, ◌<◌, ◌≡◌, length, set, slice_index, arith, refl, sym, ap, ◌∙◌, subst, get_or-set_same}
+use Rattle.std.proofs.Common.{◌+◌, ◌<◌, length, arith, refl, sym, subst, get_or-set_same}
 use Rattle.grid_core.specs.declared.grid.Grid.{Grid}
 use Rattle.grid_core.specs.Grid.{IsInGrid}
 use Rattle.maze_nets.specs.Nets.{net_points}

@@ -1,4 +1,4 @@
-use Rattle.std.proofs.Common.{ℕ, ◌≤◌, arith, ap}
+use Rattle.std.proofs.Common.{ℕ, arith, ap}
 use Rattle.ocp_place.proofs.Classes.{known, known_seen}
 use Rattle.vlsi_base.specs.declared.fault.LimitKind.TheVariants.{Size}
 use Rattle.tool_drive.specs.declared.status.Status.TheVariants as status
@@ -11,6 +11,6 @@ returns-clause-many c = λ l n placed.
     let is = c.grid_nodes-nodes.ensures l k (placed.rows k seen) in (
       k,
       seen,
-      (let over = c.if-nodes-leMOST_NODES.false in omega (arith, over, is)),
+      (let over = c.if-nodes-le-MOST_NODES.false in omega (arith, over, is)),
       ap (λ (reached : ℕ). status.Limit (record { which = Size; reached = reached })) is,
     )
