@@ -1,0 +1,11 @@
+mod Between
+mod Same
+mod Parts
+mod Seeing
+mod Constant
+mod Never
+mod Picked
+mod Listing
+mod Checked
+mod Outputs
+mod Refusing

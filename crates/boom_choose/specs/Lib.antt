@@ -1,0 +1,4 @@
+pub mod Dag
+pub mod Pick
+pub mod Choice
+pub mod Refused

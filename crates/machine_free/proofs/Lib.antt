@@ -1,0 +1,3 @@
+pub mod Greater
+mod Same
+mod Choosing
