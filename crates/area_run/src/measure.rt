@@ -1,5 +1,5 @@
 // The trees of a machine's graph, and their least area.
-ghost use Rattle.std.specs.Prelude.{◌≡◌, ◌≤◌, ◌<◌, ◌^◌, ℕ, IfOk, OnOk, IfErr, length, slice_index};
+ghost use Rattle.std.specs.Prelude.{◌≡◌, ◌≤◌, ◌<◌, ◌+◌, ◌^◌, ℕ, IfOk, OnOk, IfErr, length, slice_index};
 ghost use Rattle.machine_core.specs.Size.{machine_size as size_of};
 ghost use Rattle.source_checks.specs.Checks.{most_ports};
 ghost use Rattle.graph_theory.specs.Graph.{EachReadsEarlier, held_count as held_of};
