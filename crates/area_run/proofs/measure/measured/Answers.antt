@@ -2,6 +2,7 @@ use Rattle.std.proofs.Common.{refl, sym, ◌∙◌, ap, subst}
 use Rattle.boog_area.specs.Refused.{IsTreeRefusal}
 use Rattle.boog_area.specs.declared.error.TreeError.{TreeError}
 use Rattle.boog_area.specs.declared.error.TreeError.TheVariants as error
+use Rattle.tool_drive.specs.declared.status.Status.TheVariants as status
 use Rattle.area_run.specs.Area.{no_cell}
 use Rattle.area_run.proofs.Sizes.{numberable, fits, low_roots, reads_earlier}
 use Rattle.area_run.proofs.Measuring.{cover_measures}
@@ -47,5 +48,5 @@ returns-in-Ok-measure_of-clause-has c =
 pub returns-clause-refused : goal.returns-clause-refused
 returns-clause-refused c =
     let missing =
-    subst (λ (e : TreeError). IsTreeRefusal c.args.library.now e) (c.in-Err-NoCover.field-0-is ∙ ap error.NoCover (sym c.in-Err-NoCover.kind-is)) c.in-Err-NoCover.ensures.refused in
-    no_cell c.in_ok-check_size.ensures.small c.in-Err-NoCover.kind missing refl
+    subst (λ (e : TreeError). IsTreeRefusal c.args.library.now e) c.in-Err-NoCover.field-0-is c.in-Err-NoCover.ensures.refused in
+    no_cell c.in_ok-check_size.ensures.small c.in-Err-NoCover.kind missing (ap status.NoCover c.in-Err-NoCover.kind-is)
