@@ -72,7 +72,8 @@ fn needed_part(alloc: Global, machine: &Machine) -> Result<NeededPart, AllocErro
     Ok(part)
 }
 
-/// The trees of a machine's graph, with an area whose bounds are checked by themselves, or the status that tells why they have no cover: `Limit` of `Size`, `NoCover`, or out of memory.
+/// The trees of a machine's graph, with an area whose bounds are checked by themselves, or the status that tells why they have no
+/// cover: `Limit` of `Size`, `NoCover`, or out of memory.
 pub(crate) fn measured(
     alloc: Global,
     machine: &Machine,
