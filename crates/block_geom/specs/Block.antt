@@ -1,6 +1,6 @@
 -- Cells by numbers, and a block of placed instances with its nets.
 use Rattle.std.specs.Prelude.{◌≡◌, ℕ, zero, suc, ◌+◌, ◌-◌, ◌*◌, ◌<◌, ◌≤◌, ◌/◌, ℤ, pos, ◌+ℤ◌, ◌-ℤ◌, ◌≤ℤ◌, Bool, true, false, List, ◌++◌, map, Option, Some, None, ◌⊎◌}
-use Rattle.sym_geom.specs.declared.grid.TheConstants.{PITCH, ROW_HEIGHT, RAIL_WIDTH, WIRE_OVERHANG, LEAST_GAP, VSS_RAIL_Y, VDD_RAIL_Y, VDD_STRIP_Y, FIRST_CELL_X, RAIL_INSET, CELL_MARGIN}
+use Rattle.sym_geom.specs.declared.grid.TheConstants.{PITCH, ROW_HEIGHT, RAIL_WIDTH, RAIL_OVERHANG, LEAST_GAP, VSS_RAIL_Y, VDD_RAIL_Y, VDD_STRIP_Y, FIRST_CELL_X, RAIL_INSET, CELL_MARGIN}
 use Rattle.block_geom.specs.Rect.{Rect, IsRect, Within}
 use Rattle.block_geom.specs.Figure.{Supply, Vss, Vdd, Name, Power, Bit, Line, Shape, drawn_shapes, placed, pad, up_to, In}
 use Rattle.block_geom.specs.Joined.{Joined}
@@ -45,8 +45,8 @@ pub record IsInside (w : ℕ) (r : Rect) : Type 0 where
 
 -- in the strip at the foot or at the top of a cell of w columns
 pub record IsInStrip (w from to : ℕ) (r : Rect) : Type 0 where
-  pub left : (pos 0 -ℤ pos WIRE_OVERHANG) ≤ℤ r.x1
-  pub right : r.x2 ≤ℤ pos (PITCH * w + WIRE_OVERHANG)
+  pub left : (pos 0 -ℤ pos RAIL_OVERHANG) ≤ℤ r.x1
+  pub right : r.x2 ≤ℤ pos (PITCH * w + RAIL_OVERHANG)
   pub low : pos from ≤ℤ r.y1
   pub high : r.y2 ≤ℤ pos to
 

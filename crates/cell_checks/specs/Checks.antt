@@ -4,7 +4,7 @@ use Rattle.vlsi_base.specs.declared.name.Name.{Name}
 use Rattle.vlsi_base.specs.Member.{In}
 use Rattle.vlsi_base.specs.Names.{vdd, vss}
 use Rattle.machine_core.specs.Machine.{names_of}
-use Rattle.sym_geom.specs.declared.grid.TheConstants.{PITCH, ROW_HEIGHT, RAIL_WIDTH, WIRE_OVERHANG, LEAST_GAP, VDD_STRIP_Y, RAIL_INSET, CELL_MARGIN}
+use Rattle.sym_geom.specs.declared.grid.TheConstants.{PITCH, ROW_HEIGHT, RAIL_WIDTH, RAIL_OVERHANG, LEAST_GAP, VDD_STRIP_Y, RAIL_INSET, CELL_MARGIN}
 use Rattle.sym_geom.specs.declared.rect.Rect.{Rect}
 use Rattle.sym_geom.specs.Rect.{Within, Apart}
 use Rattle.sym_shapes.specs.Shape.{Shape, drawn}
@@ -63,9 +63,9 @@ pub record IsInside (width : ℤ) (r : Rect) : Type 0 where
   pub low : pos 0 ≤ℤ r.y1
   pub high : r.y2 ≤ℤ pos ROW_HEIGHT
 
--- the strip of a supply at these heights, over the sides of the box by a wire's overhang
+-- the strip of a supply at these heights, over the sides of the box by a rail's overhang
 abbrev pub strip : ℤ → ℕ → ℕ → Rect
-strip width from to = record { x1 = pos 0 -ℤ pos WIRE_OVERHANG; y1 = pos from; x2 = width +ℤ pos WIRE_OVERHANG; y2 = pos to }
+strip width from to = record { x1 = pos 0 -ℤ pos RAIL_OVERHANG; y1 = pos from; x2 = width +ℤ pos RAIL_OVERHANG; y2 = pos to }
 
 abbrev pub vss_strip : Cell → Rect
 vss_strip c = strip (cell_width c) 0 RAIL_WIDTH

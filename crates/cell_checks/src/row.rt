@@ -5,7 +5,7 @@ ghost use Rattle.cell_model.specs.Usable.{IsFormed};
 ghost use Rattle.cell_checks.specs.Checks.{HasColumns, StandsInRow, strip, rail};
 
 use cell_model::Cell;
-use sym_geom::{PITCH, RAIL_INSET, ROW_HEIGHT, Rect, WIRE_OVERHANG};
+use sym_geom::{PITCH, RAIL_INSET, ROW_HEIGHT, Rect, RAIL_OVERHANG};
 
 /// How many columns wide a cell is whose box stands in a row of cells: starts at 0,0, is as high as a row, and a positive number
 /// of columns wide. None for any other.
@@ -58,7 +58,7 @@ pub fn strip(cell: &Cell, from: u16, to: u16) -> Rect
     requires { IsFormed cell.now }
     ensures { result ≡ strip (cell_width cell.now) from to }
 {
-    let overhang = i64::from(WIRE_OVERHANG);
+    let overhang = i64::from(RAIL_OVERHANG);
     Rect {
         x1: -overhang,
         y1: i64::from(from),

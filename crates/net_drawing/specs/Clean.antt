@@ -1,6 +1,6 @@
 -- Cells over which nets may be drawn with tracks: the checks on a cell's layout.
 use Rattle.std.specs.Prelude.{◌≡◌, ◌<◌, length, ◌≢◌, ◌⊎◌, ℕ, ◌*◌, ◌+◌, ◌-◌, ◌≤◌, ℤ, pos, ◌+ℤ◌, ◌-ℤ◌, ◌≤ℤ◌, Some}
-use Rattle.sym_geom.specs.declared.grid.TheConstants.{PITCH, ROW_HEIGHT, RAIL_WIDTH, WIRE_OVERHANG, LEAST_GAP, VDD_STRIP_Y, RAIL_INSET, CELL_MARGIN}
+use Rattle.sym_geom.specs.declared.grid.TheConstants.{PITCH, ROW_HEIGHT, RAIL_WIDTH, RAIL_OVERHANG, LEAST_GAP, VDD_STRIP_Y, RAIL_INSET, CELL_MARGIN}
 use Rattle.vlsi_base.specs.declared.name.Name.{Name}
 use Rattle.machine_core.specs.Machine.{names_of}
 use Rattle.sym_geom.specs.Rect.{IsRect, Within}
@@ -27,10 +27,10 @@ pub record IsInside (columns : ℕ) (r : Rect) : Type 0 where
   pub low : pos 0 ≤ℤ r.y1
   pub high : r.y2 ≤ℤ pos ROW_HEIGHT
 
--- within one of the strips, over the sides by a wire's overhang at most
+-- within one of the strips, over the sides by a rail's overhang at most
 pub record IsInStrip (columns from to : ℕ) (r : Rect) : Type 0 where
-  pub left : (pos 0 -ℤ pos WIRE_OVERHANG) ≤ℤ r.x1
-  pub right : r.x2 ≤ℤ pos (PITCH * columns + WIRE_OVERHANG)
+  pub left : (pos 0 -ℤ pos RAIL_OVERHANG) ≤ℤ r.x1
+  pub right : r.x2 ≤ℤ pos (PITCH * columns + RAIL_OVERHANG)
   pub low : pos from ≤ℤ r.y1
   pub high : r.y2 ≤ℤ pos to
 

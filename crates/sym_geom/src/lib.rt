@@ -13,8 +13,8 @@ mod rects;
 pub use gaps::gap;
 pub use grid::{
     CELL_MARGIN, FIRST_CELL_X, FIRST_TRACK_Y, LEAST_GAP, LEAST_WIDTH, PAD_WIDTH, PITCH, RAIL_INSET,
-    RAIL_WIDTH, ROW_HEIGHT, VDD_RAIL_Y, VDD_STRAP_X, VDD_STRIP_Y, VSS_RAIL_Y, VSS_STRAP_X,
-    WIRE_OVERHANG, WIRE_WIDTH,
+    RAIL_OVERHANG, RAIL_WIDTH, ROW_HEIGHT, VDD_RAIL_Y, VDD_STRAP_X, VDD_STRIP_Y, VSS_RAIL_Y,
+    VSS_STRAP_X, WIRE_OVERHANG, WIRE_WIDTH,
 };
 pub use item::{
     Connector, Contact, Direction, Instance, Item, Items, Reference, Segment, Side, Via,
