@@ -1,4 +1,5 @@
-//! Reduced ordered decision diagrams with an exact budget.
+//! Reduced ordered binary decision diagrams (Bryant, 1986) with an exact budget: a table of unique nodes, and one recursion with a table of
+//! answers for gates and for the choice, ITE (Brace, Rudell and Bryant, 1990).
 #![tactic(auto)]
 
 mod diagrams;

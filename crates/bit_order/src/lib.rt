@@ -1,4 +1,5 @@
-//! An order in which each node comes after all that it reads, or a ring of nodes that leaves none.
+//! An order in which each node comes after all that it reads, or a ring of nodes that leaves none: topological sorting by depth-first search
+//! (Tarjan, 1976).
 #![tactic(auto)]
 
 mod law;

@@ -1,4 +1,4 @@
-//! Cuts of the nodes of a graph.
+//! Cuts of the nodes of a graph: priority cuts (Mishchenko, Cho, Chatterjee and Brayton, 2007), the few of each node with the least area flow.
 #![tactic(auto)]
 
 mod flow;

@@ -1,4 +1,5 @@
-//! The least area of the trees of a graph by the cells of a library, with a bound for each gate that is checked by itself.
+//! The least area of the trees of a graph by the cells of a library, with a bound for each gate that is checked by itself: dynamic
+//! programming over trees (Keutzer, 1987), where cells match cuts by truth tables.
 #![tactic(auto)]
 
 mod alike;

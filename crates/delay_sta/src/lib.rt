@@ -1,4 +1,4 @@
-//! How long the paths through a netlist of cells take.
+//! How long the paths through a netlist of cells take: static timing analysis, by the latest arrival at each class in an order of the graph.
 #![tactic(auto)]
 
 mod analysis;

@@ -1,4 +1,5 @@
-//! Equivalent states, found round by round over a table of moves, and distinguishing sequences of vectors for the others.
+//! Equivalent states, found round by round over a table of moves by partition refinement (Moore, 1956), and distinguishing sequences of
+//! vectors for the others.
 #![tactic(auto)]
 
 mod compare;

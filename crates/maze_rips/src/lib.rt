@@ -1,4 +1,5 @@
-//! The routes of all nets over a grid, where a net that is stuck has the paths torn out that block its way.
+//! The routes of all nets over a grid, where a net that is stuck has the paths torn out that block its way: rip-up and reroute (Dees and
+//! Karger, 1982).
 #![tactic(auto)]
 
 mod error;

@@ -1,4 +1,5 @@
-//! Groups of numbers that are put together pair by pair.
+//! Groups of numbers that are put together pair by pair: union-find with path halving (Tarjan and van
+//! Leeuwen, 1984), where of two roots the lesser stays one.
 #![tactic(auto)]
 
 ghost use Rattle.std.specs.Prelude.{◌≡◌, ℕ, ◌<◌, ◌≤◌, length, slice_index_or, MatchBool, IfOk};

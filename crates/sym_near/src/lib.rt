@@ -1,4 +1,4 @@
-//! Pairs of shapes of one metal: which are near, and which hold which.
+//! Pairs of shapes of one metal, found by a plane sweep along bands: which are near, and which hold which.
 //!
 //! What such pairs are stands in `specs/Related.antt`.
 #![tactic(auto)]
