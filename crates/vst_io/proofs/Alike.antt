@@ -142,7 +142,7 @@ turns_same cs ds c d t u e together = same_turns [] cs ds 0 c d t u e (λ z h. a
 -- ---- faults
 
 -- the same netlist with other models
-abbrev with_models : Netlist → List (List ℕ) → Netlist
+abbrev pub with_models : Netlist → List (List ℕ) → Netlist
 with_models n models = record n { models = models }
 
 same_pin : (table : List ModelPins) (n : Netlist) (models : List (List ℕ)) (i : Instance) (p : ModelPin) (t : Terminal) → IsPinOf table (with_models n models) i p t → IsPinOf table n i p t
@@ -168,7 +168,7 @@ same_depends table n models a b d = record {
   joined = d.joined;
 }
 
-same_ring : (table : List ModelPins) (n : Netlist) (models : List (List ℕ)) (ring : List Terminal) → IsRing table (with_models n models) ring → IsRing table n ring
+pub same_ring : (table : List ModelPins) (n : Netlist) (models : List (List ℕ)) (ring : List Terminal) → IsRing table (with_models n models) ring → IsRing table n ring
 same_ring table n models ring h = record {
   some = h.some;
   once = h.once;

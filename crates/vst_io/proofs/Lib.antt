@@ -16,4 +16,6 @@ pub mod First
 pub mod Reading
 pub mod Indexed
 pub mod Alike
+pub mod OneFault
 pub mod Once
+pub mod OneRefused

@@ -12,5 +12,5 @@ mod linking;
 mod maps;
 mod reader;
 
-pub use laws::{never_both, one_netlist};
+pub use laws::{never_both, one_netlist, one_refusal};
 pub use reader::read_vst;
