@@ -17,7 +17,7 @@ from .vhdl_reader import SUPPLIES
 FILE = 1048576
 HEIGHT, COLUMN, MOST_COLUMNS, MOST_INPUTS = 5000, 500, 32, 6
 STRIPS = {"vss": (0, 600), "vdd": (4400, 5000)}
-MARGIN, BEYOND, END, HALF_SQUARE, GAP, PAD = 200, 100, 100, 100, 200, 200
+MARGIN, SIDE, BEYOND, END, HALF_SQUARE, GAP, PAD = 200, 100, 300, 100, 100, 200, 200
 DRAWN = {f"{kind}{k}".encode(): k for kind in ("ALU", "CALU") for k in range(1, 7)}
 ABOVE = {f"TALU{k}".encode() for k in range(2, 10)}
 VIAS = {b"CONT_VIA": 1, b"CONT_VIA2": 2, b"CONT_VIA3": 3, b"CONT_VIA4": 4, b"CONT_VIA5": 5}
@@ -222,7 +222,7 @@ class Cell:
         return -BEYOND, low, self.width + BEYOND, high
 
     def is_in_place(self):
-        places = [(BEYOND, 0, self.width - BEYOND, HEIGHT), *(self.strip(name) for name in STRIPS)]
+        places = [(SIDE, 0, self.width - SIDE, HEIGHT), *(self.strip(name) for name in STRIPS)]
         return all(any(holds(place, s.box) for place in places) for s in self.shapes)
 
     def keeps_off(self, supply):
