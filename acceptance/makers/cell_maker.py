@@ -35,6 +35,11 @@ class MadeCell:
         self.box = (0, 0, width, HEIGHT)
         self.rails = {name: [wire(0, y, width, y, 600, name)] for name, y in SUPPLIES.items()}
 
+    def end_rails(self):
+        """Connectors as wide as the rails on both sides, which they reach over."""
+        for name, y in SUPPLIES.items():
+            self.rails[name] += [point(x, y, 600, name, b"ALU1") for x in (0, self.width())]
+
     def width(self):
         return COLUMN * self.columns
 
@@ -162,6 +167,8 @@ class CellMaker:
             cell.pins[pin], used = self.pieces(pin, column)
             column += used
         cell.widen(min(max(column + choose.choice([0, 0, 1]), 2), 32))
+        if choose.random() < 0.3:
+            cell.end_rails()
         for _ in range(choose.choice([0, 0, 1, 3])):
             cell.extra.append(self.harmless(cell))
         return cell
@@ -303,7 +310,7 @@ def out_of_place(choose, cell):
     elif kind == 2:
         cell.pins[pin] = [wire(x, 2000, x, 3000, 200, pin) for x in [choose.choice([-1000, width + 500])]]
     else:
-        cell.extra.append(point(*choose.choice([(width + 2, 4700, 200), (500, 5000, 200), (-150, 300, 100)]), "*", b"ALU1"))
+        cell.extra.append(point(*choose.choice([(width + 201, 4700, 200), (500, 5000, 200), (-251, 300, 100)]), "*", b"ALU1"))
 
 
 def near_a_rail(choose, cell):

@@ -2,6 +2,7 @@
 
 import re
 
+from acceptance.makers.rail_connectors import with_rail_connectors
 from acceptance.tools.boog import of_cells
 
 COLUMN, LOWEST, HIGHEST = 500, 2, 8
@@ -36,4 +37,4 @@ def tight_cells(choose, names):
         found = re.findall(r",(\w+),\w+,CALU1", files[f"lib/{name}.ap"].decode())
         pins = [pin for pin in dict.fromkeys(found) if pin not in ("vdd", "vss")]
         files[f"lib/{name}.ap"] = tight_layout(choose, name, pins).encode()
-    return files
+    return with_rail_connectors(choose, files)

@@ -9,6 +9,7 @@ import re
 from typing import NamedTuple
 
 from acceptance.makers import layout_changes
+from acceptance.makers.rail_connectors import with_rail_connectors
 from acceptance.makers.random_sources import Maker
 from acceptance.meaning.mapping import machine_size
 from acceptance.running.places import CELLS as SHIPPED_CELLS, EXAMPLES
@@ -97,7 +98,8 @@ def as_drawn(bench, title, source):
 
 
 def run_layout(results, program, title, source, choose, words=flow.WORDS):
-    files = of_cells(CELLS)
+    """A layout over cells of which about half have connectors of their rails that reach over the sides."""
+    files = with_rail_connectors(choose, of_cells(CELLS))
     with Room() as room:
         room.write({**files, "s.vbe": source})
         status, printed = room.run(program, words)
@@ -127,8 +129,8 @@ def check_layouts(results, program, seed, numbers):
         run_layout(results, program, "a layout", small_source(choose), choose)
 
 
-def check_example(results, program, path):
-    run_layout(results, program, f"the layout of {path.name}", path.read_bytes(), random.Random(path.name))
+def check_example(results, program, path, words):
+    run_layout(results, program, f"the layout of {path.name} by {words[6:]}", path.read_bytes(), random.Random(path.name), words)
 
 
 def walk_of(page):
@@ -178,4 +180,5 @@ def jobs(program, seed, times):
     for at in range(0, len(numbers), CHUNK):
         yield check_layouts, (program, seed, numbers[at : at + CHUNK])
     for name in ("inverter/row1.vbe", "counter/cnt4.vbe"):
-        yield check_example, (program, EXAMPLES / name)
+        for routing in (["--tracks"], ["--metals", "4"], ["--metals", "6"]):
+            yield check_example, (program, EXAMPLES / name, [*flow.WORDS[:-1], *routing])

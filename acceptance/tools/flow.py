@@ -11,6 +11,7 @@ import re
 from typing import NamedTuple
 
 from acceptance import cells
+from acceptance.makers.rail_connectors import with_rail_connectors
 from acceptance.makers.random_sources import Maker, changed
 from acceptance.makers.random_sources import WORDS as SOURCE_WORDS
 from acceptance.makers.random_states import StateMaker
@@ -331,12 +332,13 @@ def check_laid_out(results, title, words, files, text, printed):
 
 
 def random_files(choose):
-    """A library that mostly has a cell of each kind, in any order, now and then with made drives of some, and sometimes a file that is
-    spoilt."""
+    """A library that mostly has a cell of each kind, in any order, now and then with made drives of some and connectors of rails, and
+    sometimes a file that is spoilt."""
     names = [name for name in FIVE if choose.random() < 0.97]
     names += choose.sample(MORE, choose.randrange(5))
     choose.shuffle(names)
     files = with_drives(choose, names) if choose.random() < 0.3 else of_cells(names)
+    files = with_rail_connectors(choose, files) if choose.random() < 0.3 else files
     if choose.random() < 0.05:
         cells.spoil(choose, files)
     return files
