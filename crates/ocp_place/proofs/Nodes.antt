@@ -4,7 +4,7 @@ use Rattle.std.specs.Prelude.{ℤ, pos, negsuc, ◌*ℤ◌, ◌-ℤ◌, ◌≤�
 use Rattle.std.proofs.lemmas.Int.{ints}
 use Rattle.vlsi_base.specs.declared.name.Name.{Name}
 use Rattle.vlsi_base.specs.Member.{In, here, there}
-use Rattle.sym_geom.specs.declared.grid.TheConstants.{PITCH, PAD_WIDTH}
+use Rattle.sym_geom.specs.declared.grid.TheConstants.{PITCH, PAD_WIDTH, RAIL_OVERHANG}
 use Rattle.sym_geom.specs.Rect.{square}
 use Rattle.sym_shapes.specs.Shape.{Shape, drawn}
 use Rattle.sym_shapes.proofs.Tests.{both, within_so, number_so, list_any_In}
@@ -57,8 +57,8 @@ multiple a = omega (arith, ints)
 
 -- the edges of each shape on metal 1 lie within the box, but for an overhang at its sides
 pub record IsBounded (c : Cell) (columns : ℕ) (s : Shape) : Type 0 where
-  pub left : (pos 0 -ℤ pos 100) ≤ℤ s.rect.x1
-  pub right : s.rect.x2 ≤ℤ pos (PITCH * columns + 100)
+  pub left : (pos 0 -ℤ pos RAIL_OVERHANG) ≤ℤ s.rect.x1
+  pub right : s.rect.x2 ≤ℤ pos (PITCH * columns + RAIL_OVERHANG)
   pub low : pos 0 ≤ℤ s.rect.y1
   pub high : s.rect.y2 ≤ℤ pos 5000
 

@@ -87,9 +87,9 @@ row_is l (one ∷ rest) each =
 
 -- ---- points of pins
 
-held : (c : Cell) (d : IsClean c) (s : Shape) → In s (drawn c.items) → (s.rect.x2 ≤ℤ pos (500 * d.columns + 100)) × (s.rect.y2 ≤ℤ pos 5000)
+held : (c : Cell) (d : IsClean c) (s : Shape) → In s (drawn c.items) → (s.rect.x2 ≤ℤ pos (500 * d.columns + 300)) × (s.rect.y2 ≤ℤ pos 5000)
 held c d s h = by (d.inside s h) where
-  by : IsInside d.columns s.rect ⊎ IsInStrip d.columns 0 600 s.rect ⊎ IsInStrip d.columns 4400 5000 s.rect → (s.rect.x2 ≤ℤ pos (500 * d.columns + 100)) × (s.rect.y2 ≤ℤ pos 5000)
+  by : IsInside d.columns s.rect ⊎ IsInStrip d.columns 0 600 s.rect ⊎ IsInStrip d.columns 4400 5000 s.rect → (s.rect.x2 ≤ℤ pos (500 * d.columns + 300)) × (s.rect.y2 ≤ℤ pos 5000)
   by (inl a) = let p = a.right in let q = a.high in (omega (arith, ints), q)
   by (inr (inl a)) = let p = a.right in let q = a.high in (p, omega (arith, ints))
   by (inr (inr a)) = let p = a.right in let q = a.high in (p, q)
