@@ -12,7 +12,7 @@ use Rattle.grid_core.specs.Routes.{Tree, grown}
 use Rattle.grid_core.specs.Shown.{shown_tree, shown_routes, tree_in}
 use Rattle.nero_maze.specs.Ways.{next}
 use Rattle.nero_maze.specs.Claims.{Told}
-use Rattle.nero_maze.specs.Routing.{Move, Began, Joined, routes_of, IsPoint}
+use Rattle.nero_maze.specs.Routing.{Move, Began, Joined, routes_of, latest_path, IsPoint}
 use Rattle.nero_maze.specs.declared.board.Board.{Board}
 use Rattle.nero_maze.specs.Board.{follow, move_at, moves_in, moves_of, AreBegun, IsSound}
 use Rattle.nero_maze.proofs.Theory.{read_at}
@@ -256,3 +256,56 @@ logged b i nets at net s none lt read word =
       owner = o;
       few = subst (λ (n : ℕ). n < nets) o (subst (λ (v : ℕ). slice_index b.room.owners.items v < nets) e few);
     }
+
+-- ---- the latest move
+latest_alone : (mv : Move) (ms : List Move) → latest_path (mv ∷ ms) ≡ latest_path (mv ∷ [])
+latest_alone (Began j q) ms = refl
+latest_alone (Joined j path) ms = refl
+
+-- the last node of the log tells it
+module _ (b : Board) (s : IsSound b) (v : ℕ) (some : b.log.count ≢ 0) (read : v ≡ get_or b.log.order.items (b.log.count - 1) v) where
+  abbrev i : ℕ
+  i = b.log.count - 1
+
+  pub last_below : i < length b.log.order.items
+  last_below = let same = s.log.same in let full = s.log.full in omega arith
+
+  last_at : slice_index b.log.order.items i ≡ v
+  last_at = read_at b.log.order.items i v last_below read
+
+  pub last_within : v < nodes b.room.grid
+  last_within =
+      let below = s.log.listed i (omega arith) in
+      let size = s.logged in
+      let at = last_at in
+      omega arith
+
+  pub last_marked : slice_index b.log.marks.items v ≢ 0
+  last_marked = subst (λ (w : ℕ). slice_index b.log.marks.items w ≢ 0) last_at (s.log.marked i (omega arith))
+
+  latest_is : (mv : Move) → move_at b.room.grid b.room.owners.items b.room.links.items b.log.marks.items v ≡ mv → latest_path (moves_of b) ≡ latest_path (mv ∷ [])
+  latest_is mv is =
+      let g = b.room.grid in
+      let o = b.room.owners.items in
+      let l = b.room.links.items in
+      let m = b.log.marks.items in
+      let ord = b.log.order.items in
+      let count : suc i ≡ b.log.count = omega arith in
+      let e : move_at g o l m (slice_index ord i) ≡ mv = ap (move_at g o l m) last_at ∙ is in
+      subst (λ (n : ℕ). latest_path (moves_in g o l m ord n) ≡ latest_path (mv ∷ [])) count
+      (ap (λ (x : Move). latest_path (x ∷ moves_in g o l m ord i)) e ∙ latest_alone mv (moves_in g o l m ord i))
+
+  pub latest_touched : slice_index b.log.marks.items v ≡ 2 → latest_path (moves_of b) ≡ node_of b.room.grid v ∷ []
+  latest_touched two =
+      latest_is (Joined (slice_index b.room.owners.items v) (node_of b.room.grid v ∷ [])) (rw (eq-eqb (slice_index b.log.marks.items v) 2 two) refl)
+
+  pub latest_began : slice_index b.log.marks.items v ≢ 2 → slice_index b.room.links.items v ≡ 9 → latest_path (moves_of b) ≡ node_of b.room.grid v ∷ []
+  latest_began not_two nine =
+      latest_is (Began (slice_index b.room.owners.items v) (node_of b.room.grid v))
+      (rw (test_other (slice_index b.log.marks.items v) 2 not_two, eq-eqb (slice_index b.room.links.items v) 9 nine) refl)
+
+  pub latest_joined : slice_index b.log.marks.items v ≢ 2 → slice_index b.room.links.items v ≢ 9
+      → latest_path (moves_of b) ≡ map (node_of b.room.grid) (v ∷ follow b.room.grid b.room.links.items (nodes b.room.grid) v)
+  latest_joined not_two not_nine =
+      latest_is (Joined (slice_index b.room.owners.items v) (map (node_of b.room.grid) (v ∷ follow b.room.grid b.room.links.items (nodes b.room.grid) v)))
+      (rw (test_other (slice_index b.log.marks.items v) 2 not_two, test_other (slice_index b.room.links.items v) 9 not_nine) refl)

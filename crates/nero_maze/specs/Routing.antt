@@ -24,6 +24,12 @@ pub record Routing : Type 0 where
   pub moves : List Move
   pub reserved : Owners
 
+-- the path of the latest move: the one that joined a tree, or the node at which one began
+abbrev pub latest_path : List Move → List Node
+latest_path [] = []
+latest_path (Began j q ∷ before) = q ∷ []
+latest_path (Joined j path ∷ before) = path
+
 abbrev pub tree_of : Routing → ℕ → Option Tree
 tree_of r net = routes_of r.moves net
 

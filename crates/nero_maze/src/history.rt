@@ -6,7 +6,7 @@ ghost use Rattle.grid_core.specs.Routes.{grown};
 ghost use Rattle.grid_core.specs.Shown.{shown_tree, shown_routes, tree_in};
 ghost use Rattle.nero_maze.specs.Search.{IsRoom};
 ghost use Rattle.nero_maze.specs.Claims.{Told};
-ghost use Rattle.nero_maze.specs.Routing.{routes_of};
+ghost use Rattle.nero_maze.specs.Routing.{routes_of, latest_path};
 ghost use Rattle.nero_maze.specs.Board.{follow, moves_of, IsSound};
 
 use crate::board::{Board, ROOT, TOUCHED};
@@ -102,4 +102,23 @@ pub(crate) fn trees_of(
         }
     }
     Ok(trees)
+}
+
+/// The path of the latest move that the log tells, from its end back to the node at which it joined its tree. Takes memory for its nodes.
+pub(crate) fn latest_told(board: &Board, alloc: Global) -> Result<Vec<Node>, AllocError>
+    requires sound { IsSound board.now }
+    ensures { IfOk result (λ path. path.items ≡ latest_path (moves_of board.now)) }
+{
+    if board.log.count == 0 {
+        return Ok(Vec::new(alloc));
+    }
+    let at = board.log.order[board.log.count - 1];
+    let node = node_at(&board.room.grid, at);
+    if board.log.marks[at as usize] == TOUCHED {
+        return path_of_one(alloc, node);
+    }
+    if board.room.links[at as usize] == ROOT {
+        return path_of_one(alloc, node);
+    }
+    path_from(&board.room, alloc, at)
 }

@@ -4,11 +4,11 @@ ghost use Rattle.grid_core.specs.declared.grid.Node.{Node as AnyNode};
 ghost use Rattle.grid_core.specs.Grid.{IsInGrid, IsPath};
 ghost use Rattle.grid_core.specs.Owners.{IsFree};
 ghost use Rattle.grid_core.specs.Routes.{tree_nodes};
-ghost use Rattle.nero_maze.specs.Routing.{tree_of, IsPoint, IsBare, Begins, Connects, TakesOut, Blocks, NoneFrom, AreTrees};
+ghost use Rattle.nero_maze.specs.Routing.{latest_path, tree_of, IsPoint, IsBare, Begins, Connects, TakesOut, Blocks, NoneFrom, AreTrees};
 
 use crate::board::{Board, block, flags_of, join, keep_off, root, tear};
 use crate::frontier::{Frontier, Room, unmarked, zeros};
-use crate::history::trees_of;
+use crate::history::{latest_told, trees_of};
 use crate::hull::hulls_of_owners;
 use crate::penalties::Ties;
 use grid_core::{Node, Occupied, Routes, number_of};
@@ -145,6 +145,14 @@ impl Router {
     {
         let at = number_of(&self.board.room.grid, target);
         block(&mut self.board, net, at)
+    }
+
+    /// The path of the latest move, from its target back to the node at which it joined its tree; where a tree began, its first point
+    /// alone. Empty where no tree has begun. Takes memory for the path, and goes over its nodes alone.
+    pub fn last_path(&self, alloc: Global) -> Result<Vec<Node>, AllocError>
+        ensures { IfOk result (λ path. path.items ≡ latest_path self.now.moves) }
+    {
+        latest_told(&self.board, alloc)
     }
 
     /// The trees of all nets, of which there are so many, by their numbers. Takes memory for the trees, and goes over their nodes alone.
