@@ -1,3 +1,5 @@
+pub mod Keyed
+pub mod Laid
 pub mod Freedom
 pub mod Turns
 pub mod Known

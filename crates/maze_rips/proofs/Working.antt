@@ -1,8 +1,7 @@
 -- What is true between two moves stays true.
-use Rattle.std.proofs.Common.{◌≡◌, ◌≢◌, ℕ, ◌<◌, ◌≤◌, ◌+◌, ◌⊎◌, inl, inr, ⊎_elim, List, [], ◌∷◌, ◌++◌, length, set, slice_index, Option, Some, None, refl, sym, ap, ◌∙◌, subst, arith, get_or-set_same, get_or-set_other, length-set, get_or, if◌then◌else◌, nat_eq, zero}
+use Rattle.std.proofs.Common.{◌≡◌, ◌≢◌, ℕ, ◌<◌, ◌≤◌, ◌⊎◌, inl, inr, ⊎_elim, List, [], ◌∷◌, ◌++◌, length, take, Option, Some, None, refl, sym, ap, ◌∙◌, subst, arith, if◌then◌else◌, nat_eq}
 use Rattle.std.specs.Prelude.{slice_get}
 use Rattle.std.proofs.lemmas.Bool.{cases_eq, eq-eqb, ne_eqb}
-use Rattle.std.proofs.lemmas.List.{length-append}
 use Prim.Native.Nat.{suc}
 use Rattle.vlsi_base.specs.Member.{In, here}
 use Rattle.grid_core.specs.declared.grid.Grid.{Grid}
@@ -13,7 +12,7 @@ use Rattle.grid_core.specs.Routes.{Tree, tree_nodes, grown, with_start, with_pat
 use Rattle.grid_core.specs.Trees.{IsFreeFor, Reach, IsTreeOver, IsWhole, AreRoutes, next_point}
 use Rattle.grid_core.proofs.Growing.{routes_begin, routes_grow, path_either, grown_nodes}
 use Rattle.grid_core.proofs.Owners.{first_or}
-use Rattle.nero_maze.specs.Routing.{Routing, Began, Joined, routes_of, tree_of, NoneFrom, IsPoint, Begins, Connects, first_alone, TakesOut, Blocks}
+use Rattle.nero_maze.specs.Routing.{Routing, Move, Began, Joined, routes_of, latest_path, tree_of, NoneFrom, IsPoint, Begins, Connects, first_alone, TakesOut, Blocks}
 use Rattle.maze_nets.specs.declared.points.NetPoints.{NetPoints}
 use Rattle.maze_nets.specs.Nets.{net_points, net_reserved, AreRoutable}
 use Rattle.maze_nets.specs.Progress.{AreReserved, AreOwned, IsOrderly, HasRouted}
@@ -25,15 +24,10 @@ use Rattle.maze_rips.specs.declared.rip.PointRip.{PointRip}
 use Rattle.maze_rips.specs.declared.work.Task.{Task}
 use Rattle.maze_rips.specs.declared.work.Work.{Work}
 use Rattle.maze_rips.specs.Run.{without_paths, HasTurn, IsDue, IsFreeNow, IsFreePast, IsPathPast, IsStuck, IsInTheWay, IsRipRun}
-use Rattle.maze_rips.specs.Progress.{problem_of, IsTask, points_in, IsUnderWay, IsBeginning, IsFinishing}
+use Rattle.maze_rips.specs.Paths.{laid, paths_in, HasNow}
+use Rattle.maze_rips.specs.Progress.{problem_of, IsTask, IsUnderWay, IsBeginning, IsFinishing}
 use Rattle.maze_rips.proofs.Freedom.{has_tree, free_iff, for_free, past_iff, next_is_new, not_whole}
 use Rattle.maze_rips.proofs.Turns.{first_moved, turn_kept, began_run, joined_run, ripped_run}
-
--- what an index reads
-pub read_at : (xs : List ℕ) (i d : ℕ) → i < length xs → d ≡ get_or xs i d → slice_index xs i ≡ d
-read_at [] i d lt e = let impossible : ⊥ = omega arith in absurd impossible
-read_at (x ∷ xs) zero d lt e = sym e
-read_at (x ∷ xs) (suc i) d lt e = let lt' : i < length xs = omega arith in read_at xs i d lt' e
 
 -- ---- the trees after a move, net by net
 if_same : {A : Type 0} (j k : ℕ) (a b : A) → j ≡ k → (if nat_eq j k then a else b) ≡ a
@@ -54,18 +48,20 @@ torn_trees b old new t j = elim (cases_eq j b) [
   | inr ne ↦ t.trees j ne ∙ sym (if_other j b (first_alone (tree_of old b)) (tree_of old j) ne)
 ]
 
--- ---- how many points a tree has
-reached_set : (t : Task) (old new : Work) (k x : ℕ) → k < length t.nets.now → IsUnderWay t old → new.reached.items ≡ set old.reached.items k x
-    → points_in (tree_of new.router k) ≡ x → ((j : ℕ) → j ≢ k → tree_of new.router j ≡ tree_of old.router j) → (j : ℕ) → j < length t.nets.now
-    → slice_index new.reached.items j ≡ points_in (tree_of new.router j)
-reached_set t old new k x lt u e is others j j_lt =
-    let size = u.counted in
-    let k_lt : k < length old.reached.items = omega arith in
-    elim (cases_eq j k) [
-      | inl same ↦ ap (λ (xs : List ℕ). slice_index xs j) e ∙ (ap (λ (i : ℕ). slice_index (set old.reached.items k x) i) same
-          ∙ (get_or-set_same old.reached.items k x 0 k_lt ∙ (sym is ∙ ap (λ (i : ℕ). points_in (tree_of new.router i)) (sym same))))
-      | inr ne ↦ ap (λ (xs : List ℕ). slice_index xs j) e ∙ (get_or-set_other old.reached.items k j x 0 ne ∙ (u.reached j j_lt ∙ ap points_in (sym (others j ne))))
-    ]
+-- ---- the paths that are kept
+-- how many points a tree has
+abbrev pub points_in : Option Tree → ℕ
+points_in o = length (laid o)
+
+pub reached : (t : Task) (k : ℕ) (w : Work) → k < length t.nets.now → IsUnderWay t w → length (paths_in w.paths k) ≡ points_in (tree_of w.router k)
+reached t k w lt u = ap (λ (ps : List (List Node)). length ps) (u.kept k lt)
+
+kept_set : (t : Task) (old new : Work) (k : ℕ) (ps : List (List Node)) → IsUnderWay t old → HasNow k ps old.paths new.paths → ps ≡ laid (tree_of new.router k)
+    → ((j : ℕ) → j ≢ k → tree_of new.router j ≡ tree_of old.router j) → (j : ℕ) → j < length t.nets.now → paths_in new.paths j ≡ laid (tree_of new.router j)
+kept_set t old new k ps u now is others j lt = elim (cases_eq j k) [
+  | inl same ↦ ap (λ (i : ℕ). paths_in new.paths i) same ∙ (now.mine ∙ (is ∙ ap (λ (i : ℕ). laid (tree_of new.router i)) (sym same)))
+  | inr ne ↦ now.others j ne ∙ (u.kept j lt ∙ ap laid (sym (others j ne)))
+]
 
 only_still : (n k : ℕ) (old new : Routing) → k < n → NoneFrom n old → ((j : ℕ) → j ≢ k → tree_of new j ≡ tree_of old j) → NoneFrom n new
 only_still n k old new lt only others j le = (let ne : j ≢ k = omega arith in others j ne ∙ only j le)
@@ -75,14 +71,14 @@ no_nodes p i = elim i [ ]
 
 -- no net has a tree yet
 pub fresh_work : (t : Task) (w : Work) → HasRouted t.grid t.nets.now [] w.router → AreReserved t.grid (net_reserved t.nets.now) w.router.reserved
-    → length w.reached.items ≡ length t.nets.now → ((k : ℕ) → slice_index w.reached.items k ≡ 0) → w.rips.items ≡ [] → IsUnderWay t w
-fresh_work t w h are size zeros none =
+    → length w.paths ≡ length t.nets.now → ((k : ℕ) → paths_in w.paths k ≡ []) → w.rips.items ≡ [] → IsUnderWay t w
+fresh_work t w h are size empty none =
     let bare : (k : ℕ) → tree_of w.router k ≡ None = λ k. h.untouched k (λ i. elim i [ ]) in
     record {
       orderly = h.orderly;
       reserved = are;
       counted = size;
-      reached = λ k lt. zeros k ∙ sym (ap points_in (bare k));
+      kept = λ k lt. empty k ∙ sym (ap laid (bare k));
       only = λ k le. bare k;
       run = record { moves = []; right = tt; made = sym none; led = λ k. sym (bare k) };
     }
@@ -90,8 +86,8 @@ fresh_work t w h are size zeros none =
 -- ---- a tree begins
 module _ (t : Task) (task : IsTask t) (k : ℕ) (lt : k < length t.nets.now) (old new : Work) where
   pub seated_work : (q : Node) → IsBeginning t k old → tree_of old.router k ≡ None → slice_get (net_points t.nets.now k) 0 ≡ Some q → Begins k q old.router new.router
-      → new.reached.items ≡ set old.reached.items k 1 → new.rips.items ≡ old.rips.items → IsFinishing t k old new
-  seated_work q b none first is reached rips =
+      → HasNow k (paths_in old.paths k ++ latest_path new.router.moves ∷ []) old.paths new.paths → new.rips.items ≡ old.rips.items → IsFinishing t k old new
+  seated_work q b none first is kept rips =
       let u = b.under_way in
       let owned = u.orderly.owners in
       let nets = t.nets.now in
@@ -109,6 +105,9 @@ module _ (t : Task) (task : IsTask t) (k : ℕ) (lt : k < length t.nets.now) (ol
         added = λ p i. subst (λ o. In p (tree_nodes o)) (sym here_is) i;
       } in
       let due : IsDue (problem_of t) old.rips.items (tree_of old.router) k q = record { known = lt; turn = b.turn; lacks = next } in
+      let laid_so : paths_in old.paths k ++ latest_path new.router.moves ∷ [] ≡ laid (tree_of new.router k) =
+      ap (λ (ps : List (List Node)). ps ++ latest_path new.router.moves ∷ []) (u.kept k lt ∙ ap laid none)
+      ∙ (ap (λ (ms : List Move). latest_path ms ∷ []) is.moves ∙ ap laid (sym here_is)) in
       let run = began_run (problem_of t) old.rips.items (tree_of old.router) (tree_of new.router) u.run k q due none (started k q old.router new.router is.moves) in
       let turn = turn_kept (problem_of t) old.rips.items (tree_of old.router) (tree_of new.router) k others (not_whole (net_points nets k) (tree_of old.router k) q next) b.turn in
       record {
@@ -120,8 +119,8 @@ module _ (t : Task) (task : IsTask t) (k : ℕ) (lt : k < length t.nets.now) (ol
                   (routes_begin t.grid (net_reserved nets) (net_points nets) (length nets) k (tree_of old.router) q u.orderly.routes lt none next (free_for t.grid nets old.router owned k q free));
             };
             reserved = subst (AreReserved t.grid (net_reserved nets)) (sym is.reserved) u.reserved;
-            counted = ap (λ (xs : List ℕ). length xs) reached ∙ (length-set old.reached.items k 1 ∙ u.counted);
-            reached = reached_set t old new k 1 lt u reached (ap points_in here_is) others;
+            counted = kept.size ∙ u.counted;
+            kept = kept_set t old new k (paths_in old.paths k ++ latest_path new.router.moves ∷ []) u kept laid_so others;
             only = only_still (length nets) k old.router new.router lt u.only others;
             run = subst (λ (rs : List PointRip). IsRipRun (problem_of t) rs (tree_of new.router)) (sym rips) run;
           };
@@ -133,41 +132,41 @@ module _ (t : Task) (task : IsTask t) (k : ℕ) (lt : k < length t.nets.now) (ol
       }
 
 -- ---- or has begun already
-pub begun_work : (t : Task) (k : ℕ) (w : Work) → k < length t.nets.now → IsBeginning t k w → slice_index w.reached.items k ≢ 0 → IsFinishing t k w w
+pub begun_work : (t : Task) (k : ℕ) (w : Work) → k < length t.nets.now → IsBeginning t k w → length (paths_in w.paths k) ≢ 0 → IsFinishing t k w w
 begun_work t k w lt b some = record {
   now = b;
   rips = refl;
   others = λ j ne. refl;
-  begun = λ e. some (b.under_way.reached k lt ∙ ap points_in e);
+  begun = λ e. some (reached t k w lt b.under_way ∙ ap points_in e);
 }
 
-pub bare_tree : (t : Task) (k : ℕ) (w : Work) → k < length t.nets.now → IsBeginning t k w → slice_index w.reached.items k ≡ 0 → tree_of w.router k ≡ None
+pub bare_tree : (t : Task) (k : ℕ) (w : Work) → k < length t.nets.now → IsBeginning t k w → length (paths_in w.paths k) ≡ 0 → tree_of w.router k ≡ None
 bare_tree t k w lt b z = by (tree_of w.router k) refl
   where
     by : (o : Option Tree) → tree_of w.router k ≡ o → tree_of w.router k ≡ None
     by None e = e
-    by (Some x) e = (let one = b.under_way.reached k lt ∙ ap points_in e in let no : ⊥ = omega arith in absurd no)
+    by (Some x) e = (let one = reached t k w lt b.under_way ∙ ap points_in e in let no : ⊥ = omega arith in absurd no)
 
 -- ---- a point is reached
 tree_is : (o : Option Tree) → o ≢ None → (x : Tree) × (o ≡ Some x)
 tree_is None ne = absurd (ne refl)
 tree_is (Some x) ne = (x, refl)
 
-pub lacks_next : (t : Task) (k at : ℕ) (w : Work) (q : Node) → k < length t.nets.now → IsBeginning t k w → tree_of w.router k ≢ None → slice_index w.reached.items k ≡ at
+pub lacks_next : (t : Task) (k at : ℕ) (w : Work) (q : Node) → k < length t.nets.now → IsBeginning t k w → tree_of w.router k ≢ None → length (paths_in w.paths k) ≡ at
     → slice_get (net_points t.nets.now k) at ≡ Some q → next_point (net_points t.nets.now k) (tree_of w.router k) ≡ Some q
 lacks_next t k at w q lt b some is e =
     let (x, tree) = tree_is (tree_of w.router k) some in
-    let count : suc (length x.paths) ≡ at = ap points_in (sym tree) ∙ (sym (b.under_way.reached k lt) ∙ is) in
+    let count : suc (length x.paths) ≡ at = ap points_in (sym tree) ∙ (sym (reached t k w lt b.under_way) ∙ is) in
     subst (λ o. next_point (net_points t.nets.now k) o ≡ Some q) (sym tree) (subst (λ (n : ℕ). slice_get (net_points t.nets.now k) n ≡ Some q) (sym count) e)
 
-pub target_new : (t : Task) → IsTask t → (k at : ℕ) (w : Work) (q : Node) → k < length t.nets.now → IsBeginning t k w → tree_of w.router k ≢ None → slice_index w.reached.items k ≡ at
+pub target_new : (t : Task) → IsTask t → (k at : ℕ) (w : Work) (q : Node) → k < length t.nets.now → IsBeginning t k w → tree_of w.router k ≢ None → length (paths_in w.paths k) ≡ at
     → slice_get (net_points t.nets.now k) at ≡ Some q → IsPoint (tree_of w.router k) q → ⊥
 target_new t task k at w q lt b some is e =
     let nets = t.nets.now in
     next_is_new (IsFreeFor t.grid (net_reserved nets) (tree_of w.router) (length nets) k) (net_points nets k) (tree_of w.router k) q (b.under_way.orderly.routes k lt)
     (lacks_next t k at w q lt b some is e) (task.routable.different k)
 
-pub stuck_here : (t : Task) (k at : ℕ) (w : Work) (q : Node) → k < length t.nets.now → IsBeginning t k w → tree_of w.router k ≢ None → slice_index w.reached.items k ≡ at
+pub stuck_here : (t : Task) (k at : ℕ) (w : Work) (q : Node) → k < length t.nets.now → IsBeginning t k w → tree_of w.router k ≢ None → length (paths_in w.paths k) ≡ at
     → slice_get (net_points t.nets.now k) at ≡ Some q → ((path : List Node) → IsPath (IsFree w.router.occupied k) (tree_nodes (tree_of w.router k)) q path → ⊥)
     → IsStuck (problem_of t) w.rips.items (tree_of w.router) k at q
 stuck_here t k at w q lt b some is e none =
@@ -178,20 +177,19 @@ stuck_here t k at w q lt b some is e none =
       due = record { known = lt; turn = b.turn; lacks = lacks_next t k at w q lt b some is e };
       tree = x;
       begun = tree;
-      number = ap points_in (sym tree) ∙ (sym (u.reached k lt) ∙ is);
+      number = ap points_in (sym tree) ∙ (sym (reached t k w lt u) ∙ is);
       none = λ path is_path. none path
           (path_moved (IsFreeNow (problem_of t) (tree_of w.router) k) (IsFree w.router.occupied k) (tree_nodes (tree_of w.router k)) (tree_nodes (tree_of w.router k))
           (λ p f. for_free t.grid nets w.router u.orderly.owners u.only k p f) (λ p i. i) q path is_path);
     }
 
-points_grown : (path : List Node) (o : Option Tree) (n : ℕ) → o ≢ None → points_in o ≡ n → points_in (grown path o) ≡ n + 1
-points_grown path None n some e = absurd (some refl)
-points_grown path (Some x) n some e = (let l = length-append x.paths (path ∷ []) in omega arith)
+laid_grown : (path : List Node) (x : Tree) → laid (grown path (Some x)) ≡ laid (Some x) ++ path ∷ []
+laid_grown path x = refl
 
 pub joined_work : (t : Task) → IsTask t → (k at : ℕ) (old new : Work) (q : Node) (path : List Node) (cost : ℕ) → k < length t.nets.now → IsBeginning t k old → tree_of old.router k ≢ None
-    → slice_index old.reached.items k ≡ at → slice_get (net_points t.nets.now k) at ≡ Some q → Connects k q cost old.router new.router path
-    → new.reached.items ≡ set old.reached.items k (at + 1) → new.rips.items ≡ old.rips.items → IsFinishing t k old new
-joined_work t task k at old new q path cost lt b some is e c reached rips =
+    → length (paths_in old.paths k) ≡ at → slice_get (net_points t.nets.now k) at ≡ Some q → Connects k q cost old.router new.router path
+    → HasNow k (paths_in old.paths k ++ latest_path new.router.moves ∷ []) old.paths new.paths → new.rips.items ≡ old.rips.items → IsFinishing t k old new
+joined_work t task k at old new q path cost lt b some is e c kept rips =
     let u = b.under_way in
     let owned = u.orderly.owners in
     let nets = t.nets.now in
@@ -215,7 +213,9 @@ joined_work t task k at old new q path cost lt b some is e c reached rips =
     let due : IsDue (problem_of t) old.rips.items (tree_of old.router) k q = record { known = lt; turn = b.turn; lacks = next } in
     let run = joined_run (problem_of t) old.rips.items (tree_of old.router) (tree_of new.router) u.run k q path due least (pathed k path old.router new.router c.moves) in
     let turn = turn_kept (problem_of t) old.rips.items (tree_of old.router) (tree_of new.router) k others (not_whole (net_points nets k) (tree_of old.router k) q next) b.turn in
-    let count : points_in (tree_of new.router k) ≡ at + 1 = ap points_in here_is ∙ points_grown path (tree_of old.router k) at some (sym (u.reached k lt) ∙ is) in
+    let laid_so : paths_in old.paths k ++ latest_path new.router.moves ∷ [] ≡ laid (tree_of new.router k) =
+    ap (λ (ps : List (List Node)). ps ++ latest_path new.router.moves ∷ []) (u.kept k lt ∙ ap laid tree)
+    ∙ (ap (λ (ms : List Move). laid (Some x) ++ latest_path ms ∷ []) c.moves ∙ (sym (laid_grown path x) ∙ ap laid (sym now_is))) in
     record {
       now = record {
         under_way = record {
@@ -225,8 +225,8 @@ joined_work t task k at old new q path cost lt b some is e c reached rips =
                 (routes_grow t.grid (net_reserved nets) (net_points nets) (length nets) k (tree_of old.router) q path x u.orderly.routes lt tree next least.leads);
           };
           reserved = subst (AreReserved t.grid (net_reserved nets)) (sym c.reserved) u.reserved;
-          counted = ap (λ (xs : List ℕ). length xs) reached ∙ (length-set old.reached.items k (at + 1) ∙ u.counted);
-          reached = reached_set t old new k (at + 1) lt u reached count others;
+          counted = kept.size ∙ u.counted;
+          kept = kept_set t old new k (paths_in old.paths k ++ latest_path new.router.moves ∷ []) u kept laid_so others;
           only = only_still (length nets) k old.router new.router lt u.only others;
           run = subst (λ (rs : List PointRip). IsRipRun (problem_of t) rs (tree_of new.router)) (sym rips) run;
         };
@@ -267,12 +267,12 @@ no_points t k w lt u none =
     tree_whole (net_points nets k) (tree_of w.router k) (omega arith)
 
 -- one that has reached them all is whole
-pub finishing_whole : (t : Task) (k : ℕ) (w : Work) → k < length t.nets.now → IsUnderWay t w → length (net_points t.nets.now k) ≤ slice_index w.reached.items k
+pub finishing_whole : (t : Task) (k : ℕ) (w : Work) → k < length t.nets.now → IsUnderWay t w → length (net_points t.nets.now k) ≤ length (paths_in w.paths k)
     → IsWhole (net_points t.nets.now k) (tree_of w.router k)
 finishing_whole t k w lt u all =
     let nets = t.nets.now in
     let fits = tree_fits (IsFreeFor t.grid (net_reserved nets) (tree_of w.router) (length nets) k) (net_points nets k) (tree_of w.router k) (u.orderly.routes k lt) in
-    let is = u.reached k lt in
+    let is = reached t k w lt u in
     tree_whole (net_points nets k) (tree_of w.router k) (omega arith)
 
 -- one after another
@@ -373,9 +373,9 @@ module _ (g : Grid) (nets : List NetPoints) (can : AreRoutable g nets) (b : ℕ)
   pub torn_orderly : IsOrderly g nets new
   torn_orderly = record { owners = torn_owned; routes = torn_routes }
 
-alone_points : (o : Option Tree) → o ≢ None → points_in (first_alone o) ≡ 1
-alone_points None ne = absurd (ne refl)
-alone_points (Some x) ne = refl
+laid_alone : (o : Option Tree) → take 1 (laid o) ≡ laid (first_alone o)
+laid_alone None = refl
+laid_alone (Some x) = refl
 
 -- a net that blocks another is in its way
 pub in_the_way : (t : Task) (w : Work) (k : ℕ) (q : Node) (b : ℕ) → IsUnderWay t w → Blocks w.router k q b → IsInTheWay (problem_of t) (tree_of w.router) k q b
@@ -395,18 +395,18 @@ pub blocker_begun : (w : Work) (k : ℕ) (q : Node) (b : ℕ) → Blocks w.route
 blocker_begun w k q b h none = no_nodes h.first (subst (λ o. In h.first (tree_nodes o)) none h.theirs)
 
 pub ripped_work : (t : Task) → IsTask t → (old new : Work) (k at b : ℕ) (q : Node) → IsUnderWay t old → IsStuck (problem_of t) old.rips.items (tree_of old.router) k at q
-    → Blocks old.router k q b → TakesOut b old.router new.router → new.reached.items ≡ set old.reached.items b 1
+    → Blocks old.router k q b → TakesOut b old.router new.router → HasNow b (take 1 (paths_in old.paths b)) old.paths new.paths
     → new.rips.items ≡ old.rips.items ++ record { net = k; point = at; torn = b } ∷ [] → IsUnderWay t new
-ripped_work t task old new k at b q u stuck h torn reached rips =
+ripped_work t task old new k at b q u stuck h torn kept rips =
     let nets = t.nets.now in
     let way = in_the_way t old k q b u h in
-    let some = blocker_begun old k q b h in
     let run = ripped_run (problem_of t) old.rips.items (tree_of old.router) (tree_of new.router) u.run (record { net = k; point = at; torn = b }) q stuck way (torn_trees b old.router new.router torn) in
     record {
       orderly = torn_orderly t.grid nets task.routable b old.router new.router u.orderly u.reserved torn;
       reserved = subst (AreReserved t.grid (net_reserved nets)) (sym torn.reserved) u.reserved;
-      counted = ap (λ (xs : List ℕ). length xs) reached ∙ (length-set old.reached.items b 1 ∙ u.counted);
-      reached = reached_set t old new b 1 way.known u reached (ap points_in torn.tree ∙ alone_points (tree_of old.router b) some) torn.trees;
+      counted = kept.size ∙ u.counted;
+      kept = kept_set t old new b (take 1 (paths_in old.paths b)) u kept
+          (ap (λ (ps : List (List Node)). take 1 ps) (u.kept b way.known) ∙ (laid_alone (tree_of old.router b) ∙ ap laid (sym torn.tree))) torn.trees;
       only = only_still (length nets) b old.router new.router way.known u.only torn.trees;
       run = subst (λ (rs : List PointRip). IsRipRun (problem_of t) rs (tree_of new.router)) (sym rips) run;
     }

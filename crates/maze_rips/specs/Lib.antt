@@ -1,4 +1,5 @@
 pub mod Run
 pub mod Answers
+pub mod Paths
 pub mod Progress
 pub mod Law

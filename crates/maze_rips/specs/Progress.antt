@@ -1,7 +1,5 @@
 -- What is true between two moves.
-use Rattle.std.specs.Prelude.{◌≡◌, ◌≢◌, ℕ, ◌<◌, None, Some, Option, length, slice_index}
-use Prim.Native.Nat.{suc}
-use Rattle.grid_core.specs.Routes.{Tree}
+use Rattle.std.specs.Prelude.{◌≡◌, ◌≢◌, ℕ, ◌<◌, None, length}
 use Rattle.grid_core.specs.Trees.{IsNetOrder}
 use Rattle.nero_maze.specs.Routing.{tree_of, NoneFrom}
 use Rattle.maze_nets.specs.Nets.{net_reserved, half_perimeter, AreRoutable}
@@ -10,6 +8,7 @@ use Rattle.maze_rips.specs.declared.work.Task.{Task}
 use Rattle.maze_rips.specs.declared.work.Work.{Work}
 use Rattle.maze_rips.specs.Run.{Problem, HasTurn, IsRipRun}
 use Rattle.maze_rips.specs.Answers.{problem}
+use Rattle.maze_rips.specs.Paths.{laid, paths_in}
 
 abbrev pub problem_of : Task → Problem
 problem_of t = problem t.grid t.nets.now t.order.now
@@ -20,17 +19,12 @@ pub record IsTask (t : Task) : Type 0 where
   pub few : length t.nets.now < 4294967295
   pub sorted : IsNetOrder (half_perimeter t.nets.now) (length t.nets.now) t.order.now
 
--- how many points of its net a tree has
-abbrev pub points_in : Option Tree → ℕ
-points_in None = 0
-points_in (Some t) = suc (length t.paths)
-
--- the trees and the rips come of moves, and it is known how many points each tree has
+-- the trees and the rips come of moves, and the paths of each tree are kept
 pub record IsUnderWay (t : Task) (w : Work) : Type 0 where
   pub orderly : IsOrderly t.grid t.nets.now w.router
   pub reserved : AreReserved t.grid (net_reserved t.nets.now) w.router.reserved
-  pub counted : length w.reached.items ≡ length t.nets.now
-  pub reached : (k : ℕ) → k < length t.nets.now → slice_index w.reached.items k ≡ points_in (tree_of w.router k)
+  pub counted : length w.paths ≡ length t.nets.now
+  pub kept : (k : ℕ) → k < length t.nets.now → paths_in w.paths k ≡ laid (tree_of w.router k)
   pub only : NoneFrom (length t.nets.now) w.router
   pub run : IsRipRun (problem_of t) w.rips.items (tree_of w.router)
 

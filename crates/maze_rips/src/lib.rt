@@ -4,6 +4,7 @@
 
 mod error;
 mod law;
+mod paths;
 mod rip;
 mod ripping;
 mod work;

@@ -12,7 +12,7 @@ ghost use Rattle.maze_rips.specs.Progress.{problem_of, IsTask, IsUnderWay};
 
 use crate::error::RipError;
 use crate::rip::{PointRip, Ripped};
-use crate::work::{Stuck, Task, Work, begin_work, finish_all, point_of};
+use crate::work::{Stuck, Task, Work, begin_work, end_work, finish_all, point_of};
 use grid_core::Grid;
 use maze_nets::{NetPoints, Ties, net_order};
 use std::alloc::{AllocError, Global};
@@ -46,12 +46,17 @@ fn rip(work: &mut Work, task: &Task, stuck: Stuck) -> Result<bool, AllocError>
     })?;
     work.router.avoid(torn);
     work.router.take_out(torn);
-    work.reached[torn as usize] = 1;
+    work.paths.tear(torn as usize);
     Ok(true)
 }
 
 /// All nets get their points, and stuck ones have others torn out, so many times at most.
-fn rip_up(work: &mut Work, task: &Task, allowed: u32) -> Result<Option<Stuck>, AllocError>
+fn rip_up(
+    alloc: Global,
+    work: &mut Work,
+    task: &Task,
+    allowed: u32,
+) -> Result<Option<Stuck>, AllocError>
     requires task { IsTask task.now }
     requires under_way { IsUnderWay task.now work.old }
     requires no_rips { work.old.rips.items ≡ [] }
@@ -61,14 +66,14 @@ fn rip_up(work: &mut Work, task: &Task, allowed: u32) -> Result<Option<Stuck>, A
     ensures spent { IfOk result (λ r. IfSome r (λ s. IsSpent (problem_of task.now) allowed work.new.rips.items (tree_of work.new.router) s.net s.point)) }
 {
     while work.rips.len() < allowed as usize {
-        let Some(stuck) = finish_all(work, task) else {
+        let Some(stuck) = finish_all(alloc, work, task)? else {
             return Ok(None);
         };
         if !rip(work, task, stuck)? {
             return Ok(Some(stuck));
         }
     }
-    Ok(finish_all(work, task))
+    finish_all(alloc, work, task)
 }
 
 /// The routes of nets, where paths of one cost are chosen so.
@@ -80,18 +85,15 @@ fn attempt(alloc: Global, task: &Task, allowed: u32, ties: Ties) -> Result<Rippe
     ensures refused { IfErr result (λ e. IsRefusal task.now.grid task.now.nets.now allowed e) }
 {
     let mut work = begin_work(alloc, task, ties)?;
-    let stuck = rip_up(&mut work, task, allowed)?;
-    let routes = work.router.routes(alloc, task.nets.len())?;
+    let stuck = rip_up(alloc, &mut work, task, allowed)?;
+    let ripped = end_work(alloc, work)?;
     match stuck {
-        None => Ok(Ripped {
-            routes,
-            rips: work.rips,
-        }),
+        None => Ok(ripped),
         Some(stuck) => Err(RipError::NoPath {
             net: stuck.net,
             point: stuck.point,
-            so_far: routes,
-            rips: work.rips,
+            so_far: ripped.routes,
+            rips: ripped.rips,
         }),
     }
 }
@@ -105,16 +107,10 @@ fn trial(alloc: Global, task: &Task, allowed: u32, ties: Ties) -> Result<Option<
         AreRipped task.now.grid task.now.nets.now allowed r.rips.items (tree_in r.routes))) }
 {
     let mut work = begin_work(alloc, task, ties)?;
-    let stuck = rip_up(&mut work, task, allowed.min(TRIAL_RIPS))?;
+    let stuck = rip_up(alloc, &mut work, task, allowed.min(TRIAL_RIPS))?;
     match stuck {
         Some(_) => Ok(None),
-        None => {
-            let routes = work.router.routes(alloc, task.nets.len())?;
-            Ok(Some(Ripped {
-                routes,
-                rips: work.rips,
-            }))
-        }
+        None => Ok(Some(end_work(alloc, work)?)),
     }
 }
 

@@ -1,4 +1,4 @@
-use Rattle.std.proofs.Common.{◌≡◌, ◌≢◌, List, Some, None, arith, refl, sym, ◌∙◌, subst}
+use Rattle.std.proofs.Common.{◌≡◌, ◌≢◌, List, None, arith, sym, ◌∙◌, subst}
 use Rattle.grid_core.specs.declared.grid.Grid.{Grid}
 use Rattle.grid_core.specs.declared.grid.Node.{Node}
 use Rattle.grid_core.specs.Grid.{IsInGrid}
@@ -7,24 +7,9 @@ use Rattle.maze_nets.specs.Nets.{net_points}
 use Rattle.maze_nets.proofs.Lists.{get_in, point_reserved}
 use Rattle.maze_rips.specs.Run.{IsPathPast}
 use Rattle.maze_rips.specs.Progress.{problem_of}
-use Rattle.maze_rips.proofs.Known.{stuck_known}
 use Rattle.maze_rips.proofs.Working.{in_the_way, blocker_begun, ripped_work, nothing_past, stuck_free}
 use Rattle.maze_rips.proofs.Finishing.{stuck_point, same_point}
 use Rattle.maze_rips.proofs.ripping.rip.Goals as goal
-
-pub point_of-target-requires-clause-net : goal.point_of-target-requires-clause-net
-point_of-target-requires-clause-net c = c.requires.stuck.1.due.known
-
-pub point_of-target-requires-clause-at : goal.point_of-target-requires-clause-at
-point_of-target-requires-clause-at c =
-    let (q, s) = c.requires.stuck in
-    stuck_known (problem_of c.args.task.now) c.args.work.now.rips.items (tree_of c.args.work.now.router) c.args.stuck.net c.args.stuck.point q s
-
-pub blocker-requires-clause-begun : goal.blocker-requires-clause-begun
-blocker-requires-clause-begun c = λ none.
-    let (q, s) = c.requires.stuck in
-    let both : None ≡ Some s.tree = sym none ∙ s.begun in
-    cc both
 
 pub blocker-requires-clause-within : goal.blocker-requires-clause-within
 blocker-requires-clause-within c =
@@ -63,8 +48,8 @@ take_out-requires c =
     let stuck = stuck_point (problem_of t) w.rips.items (tree_of w.router) k at q target s c.point_of-target.ensures in
     record { begun = subst (λ r. tree_of r c.in-Some.torn ≢ None) (sym (c.avoid.ensures ∙ c.blocker.ensures.same)) (blocker_begun w k target c.in-Some.torn c.in-Some.ensures.blocks) }
 
-pub index_mut-requires : goal.index_mut-requires
-index_mut-requires c =
+pub tear-requires : goal.tear-requires
+tear-requires c =
     let t = c.args.task.now in
     let w = c.args.work.now in
     let k = c.args.stuck.net in
@@ -89,7 +74,7 @@ returns-clause-under_way c = λ yes.
     let u = c.requires.under_way in
     let stuck = stuck_point (problem_of t) w.rips.items (tree_of w.router) k at q target s c.point_of-target.ensures in
     let out = subst (λ r. TakesOut c.in-Some.torn r c.take_out.new.self) (c.avoid.ensures ∙ c.blocker.ensures.same) c.take_out.ensures in
-    ripped_work t c.requires.task w _ k at c.in-Some.torn target u stuck c.in-Some.ensures.blocks out refl c.in_ok-push.ensures.items
+    ripped_work t c.requires.task w _ k at c.in-Some.torn target u stuck c.in-Some.ensures.blocks out c.tear.ensures c.in_ok-push.ensures.items
 
 pub returns-in_default-clause-closed : goal.returns-in_default-clause-closed
 returns-in_default-clause-closed c = λ no q s.

@@ -3,4 +3,4 @@ use Rattle.maze_rips.proofs.work.begin_work.Goals as goal
 
 pub returns-clause-begun : goal.returns-clause-begun
 returns-clause-begun c =
-    fresh_work c.args.task.now _ c.in_ok-router.ensures.bare c.in_ok-router.ensures.reserved c.in_ok-reached.ensures.size c.in_ok-reached.ensures.zero c.new.ensures.items
+    fresh_work c.args.task.now _ c.in_ok-router.ensures.bare c.in_ok-router.ensures.reserved c.in_ok-paths.ensures.size c.in_ok-paths.ensures.none c.new.ensures.items

@@ -1,20 +1,13 @@
-use Rattle.std.proofs.Common.{◌≡◌, ◌-◌, List, Some, None, length, ap, sym, ◌∙◌, subst}
+use Rattle.std.proofs.Common.{◌≡◌, ◌-◌, List, Some, length, ap, sym, ◌∙◌, subst}
 use Rattle.std.specs.Prelude.{slice_get}
 use Rattle.std.specs.Option.{option_copied}
 use Rattle.nero_maze.specs.Routing.{tree_of}
 use Rattle.maze_rips.specs.declared.rip.PointRip.{PointRip}
 use Rattle.maze_rips.specs.Run.{last_stuck}
 use Rattle.maze_rips.specs.Progress.{problem_of}
-use Rattle.maze_rips.proofs.Known.{last_none, last_some}
-use Rattle.maze_rips.proofs.Finishing.{last_known, last_turn, served_by, served_none}
+use Rattle.maze_rips.proofs.Known.{last_some}
+use Rattle.maze_rips.proofs.Finishing.{last_known, last_turn, served_by}
 use Rattle.maze_rips.proofs.work.finish_last.Goals as goal
-
-pub returns-in_default-clause-served : goal.returns-in_default-clause-served
-returns-in_default-clause-served c =
-    let w = c.args.work.now in
-    let at = sym c.last.ensures.value ∙ ap option_copied c.in_default.is in
-    let none = subst (λ (xs : List PointRip). slice_get xs (length xs - 1) ≡ None) c.deref.ensures.value at in
-    served_none (problem_of c.args.task.now) (tree_of w.router) (last_stuck w.rips.items) (last_none w.rips.items none)
 
 pub finish-requires-clause-net : goal.finish-requires-clause-net
 finish-requires-clause-net c =
@@ -42,4 +35,4 @@ returns-in-None-clause-served c =
     let read = subst (λ (xs : List PointRip). slice_get xs (length xs - 1) ≡ Some r) c.deref.ensures.value at in
     let e = last_some w.rips.items r read in
     let new = c.finish.new.work in
-    served_by (problem_of c.args.task.now) (tree_of new.router) (last_stuck new.rips.items) r.net (ap last_stuck c.finish.ensures.rips ∙ e) c.in-None.ensures.whole
+    served_by (problem_of c.args.task.now) (tree_of new.router) (last_stuck new.rips.items) r.net (ap last_stuck c.in_ok-point.ensures.rips ∙ e) (let h = c.in_ok-point.ensures.whole in rw c.in-None.is at h)
