@@ -5,7 +5,7 @@ ghost use Rattle.cell_model.specs.Usable.{IsFormed};
 ghost use Rattle.cell_checks.specs.Checks.{HasColumns, StandsInRow, strip, rail};
 
 use cell_model::Cell;
-use sym_geom::{PITCH, RAIL_INSET, ROW_HEIGHT, Rect, RAIL_OVERHANG};
+use sym_geom::{PITCH, RAIL_INSET, RAIL_OVERHANG, ROW_HEIGHT, Rect};
 
 /// How many columns wide a cell is whose box stands in a row of cells: starts at 0,0, is as high as a row, and a positive number
 /// of columns wide. None for any other.
