@@ -1,11 +1,11 @@
 // The step that a state machine makes from a state.
-ghost use Rattle.std.specs.Prelude.{◌≡◌, false, length, map, All, IfOk, slice_index_or};
+ghost use Rattle.std.specs.Prelude.{◌≡◌, false, length, map, All, IfOk, IsTrue, MatchOption, slice_index_or};
 ghost use Rattle.fsm_machine.specs.Walk.{given_next, given_output};
 ghost use Rattle.fsm_machine.specs.Fsm.{fsm_outputs};
 ghost use Rattle.fsm_code.specs.Over.{IsAssignmentOver, IsBodyOver};
 ghost use Rattle.fsm_code.specs.View.{assignment_view, body_view};
 ghost use Rattle.machine_core.specs.Checked.{AreInOrder};
-ghost use Rattle.fsm_code.specs.Sought.{nameless};
+ghost use Rattle.fsm_code.specs.Sought.{nameless, Stands, IsNowhere};
 ghost use Rattle.fsm_walk.specs.Trail.{last_given, EachGiven};
 ghost use Rattle.fsm_walk.specs.Step.{step_of};
 
@@ -49,18 +49,54 @@ fn next_of(trail: &[&Assignment]) -> u32
     next
 }
 
-// Puts what an assignment gives to an output bit in its place.
-fn assign(outs: &mut [bool], bits: &[bool], outputs: &[Name], assignment: &Assignment)
+// Whether a name stands at a place.
+fn stands_at(names: &[Name], place: usize, name: &Name) -> bool
+    ensures { IsTrue result → Stands names.now place name.now }
+{
+    match names.get(place) {
+        Some(other) => other.is_same(name),
+        None => false,
+    }
+}
+
+// The place of an output bit. It is looked for first on both sides of the last place, since a vector is assigned bit by bit.
+fn place_beside(outputs: &[Name], target: &Name, last: usize) -> Option<usize>
+    requires { AreInOrder outputs.now }
+    ensures { MatchOption result (IsNowhere outputs.now target.now) (λ k. Stands outputs.now k target.now) }
+{
+    let above = last.wrapping_add(1);
+    if stands_at(outputs, above, target) {
+        return Some(above);
+    }
+    let below = last.wrapping_sub(1);
+    if stands_at(outputs, below, target) {
+        return Some(below);
+    }
+    place_of(outputs, target)
+}
+
+// Puts what an assignment gives to an output bit in its place, and gives the place; where there is none, the last one.
+fn assign(
+    outs: &mut [bool],
+    bits: &[bool],
+    outputs: &[Name],
+    assignment: &Assignment,
+    last: usize,
+) -> usize
     requires order { AreInOrder outputs.now }
     requires count { length outs.old ≡ length outputs.now }
     requires over { IsAssignmentOver (length bits.now) (assignment_view assignment.now) }
     ensures { EachGiven (λ k. given_output bits.now (slice_index_or outputs.now k nameless)) (assignment_view assignment.now) outs.old outs.new }
 {
     let Assignment::Output(target, e) = assignment else {
-        return;
+        return last;
     };
-    if let Some(place) = place_of(outputs, target) {
-        outs[place] = value_at(e, bits);
+    match place_beside(outputs, target, last) {
+        Some(place) => {
+            outs[place] = value_at(e, bits);
+            place
+        }
+        None => last,
     }
 }
 
@@ -77,8 +113,9 @@ fn outputs_of(
         ≡ map (λ name. last_given (given_output bits.now name) false (map (λ a. assignment_view a.now) trail.now)) outputs.now) }
 {
     let mut outs = vec![in alloc; false; outputs.len()]?;
+    let mut place = 0;
     for assignment in trail {
-        assign(&mut outs, bits, outputs, *assignment);
+        place = assign(&mut outs, bits, outputs, *assignment, place);
     }
     Ok(Bits::new(outs))
 }
