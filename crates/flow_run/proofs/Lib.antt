@@ -22,3 +22,4 @@ mod Checks
 mod Cells
 mod Refusals
 mod Libraries
+mod OneRefusal

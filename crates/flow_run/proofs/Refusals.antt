@@ -46,7 +46,7 @@ source_in [] s behind = here
 source_in (b ∷ before) s behind = there (source_in before s behind)
 
 -- each source has a cell
-cell_of : (tracks : Bool) (ss : List Source) (cells : List Cell) (s : Source) → AreCells (IsCell tracks) ss cells → In s ss → (c : Cell) × IsCell tracks s c
+pub cell_of : (tracks : Bool) (ss : List Source) (cells : List Cell) (s : Source) → AreCells (IsCell tracks) ss cells → In s ss → (c : Cell) × IsCell tracks s c
 cell_of tracks _ _ s none i = elim i [ ]
 cell_of tracks _ _ s (next {cell = c} h rest) here = (c, h)
 cell_of tracks _ _ s (next {rest = ss} {cells = cs} h rest) (there i) = cell_of tracks ss cs s rest i

@@ -16,3 +16,4 @@ pub mod Laws
 pub mod Generated
 pub mod Same
 pub mod OneLibrary
+pub mod OneRefusal

@@ -23,7 +23,7 @@ pub use command::{Command, read_words};
 pub use gen_run::{circuit_law, gen_law};
 pub use one_library::{
     cell_is_never_refused, covered_lacks_nothing, libraries_are_same, library_is_never_refused,
-    texts_are_same,
+    one_refusal, texts_are_same,
 };
 pub use reading::reading_law;
 pub use right_layout::right_layout_law;

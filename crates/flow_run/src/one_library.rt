@@ -2,6 +2,7 @@
 ghost use Rattle.flow_run.specs.Same.{TextsAreSame};
 ghost use Rattle.flow_run.specs.OneLibrary.{SaidIsNeverUnsaid, CellIsNeverRefused, LibraryIsNeverRefused};
 ghost use Rattle.flow_run.specs.OneLibrary.{LibrariesAreSame, LibrariesCoverTheSame, CoveredLacksNothing};
+ghost use Rattle.flow_run.specs.OneRefusal.{CellHasOneRefusal, LibraryHasOneRefusal};
 
 use vbe_laws::{cells_are_the_same, machines_are_the_same, machines_do_the_same};
 
@@ -24,6 +25,14 @@ pub fn cell_is_never_refused()
 /// The files of a library have no cause to refuse them.
 pub fn library_is_never_refused()
     ensures { LibraryIsNeverRefused }
+{
+    texts_are_same();
+}
+
+/// The two files of a cell have at most one refusal, and so have the files of a library.
+pub fn one_refusal()
+    ensures cell { CellHasOneRefusal }
+    ensures library { LibraryHasOneRefusal }
 {
     texts_are_same();
 }
