@@ -59,7 +59,8 @@ CAUSES = """# The causes of `flow`'s statuses
 
 When each status of `flow` comes and what it leaves, from the clauses of the top call, and what a file says of a net that is stuck. Those of
 the other tools stand in their crates, which [what is proved](PROVED.md) names. It is read as [the definitions](HEADLINE-DEFINITIONS.md) of
-[the headline](HEADLINE.md) are, and has none of those again, nor of those that tell its inputs. `bench/headline.py` writes this page from the files that it names.
+[the headline](HEADLINE.md) are, and has none of those again, nor of those that tell its inputs. That two runs with the same words, over the
+same files, have one status, as far as the files tell it, is a law, `one_status` of `flow_run`. `bench/headline.py` writes this page from the files that it names.
 """
 
 INPUTS = """# What the headline says of its inputs

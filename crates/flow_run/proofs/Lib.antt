@@ -21,5 +21,7 @@ mod Functions
 mod Checks
 mod Cells
 mod Refusals
-mod Libraries
+pub mod Libraries
 mod OneRefusal
+pub mod Runs
+pub mod OneStatus

@@ -75,7 +75,7 @@ missing_in cs k _ (first lacks) = (here, lacks)
 missing_in cs k _ (later {ks = ks} has rest) = let r = missing_in cs k ks rest in (there r.0, r.1)
 
 -- machines whose registers have the same names have registers, or have none
-registers_same : (m n : Machine) → register_names m ≡ register_names n → has_registers m ≡ has_registers n
+pub registers_same : (m n : Machine) → register_names m ≡ register_names n → has_registers m ≡ has_registers n
 registers_same m n s =
     let many : length m.registers ≡ length n.registers =
     sym (length-map m.registers (λ (r : Register). r.name)) ∙ ap (λ (l : List Name). length l) s ∙ length-map n.registers (λ (r : Register). r.name) in

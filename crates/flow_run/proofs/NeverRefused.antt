@@ -45,7 +45,7 @@ none_missing cells k _ each (later {ks = kinds} has rest) = none_missing cells k
 -- ---- sources: a data-flow text is one up to the order of its equations, and a state machine is one
 
 module _ (texts : NeverBoth) (machines : NeverBothStates) where
-  input_never : (b : Bool) (c : FlowCommand) (source : List ℕ) (o : Origin) (m : Machine) → IsOf b c source o m → (s : Status)
+  pub input_never : (b : Bool) (c : FlowCommand) (source : List ℕ) (o : Origin) (m : Machine) → IsOf b c source o m → (s : Status)
       → OfFile c.source (refusal_by b source) s → ⊥
   input_never false c source equations m is (status.Source name fault) h = texts source m (reading.Input fault) is h.1
   input_never false c source equations m is (status.Limit l) h = texts source m (reading.Limit l) is h
@@ -57,7 +57,7 @@ module _ (texts : NeverBoth) (machines : NeverBothStates) where
   input_never true c source equations m is s h = absurd is
 
 module _ (weights : MachinesWeighTheSame) (one : EncodedIsOne) where
-  size_same : (b : Bool) (c : FlowCommand) (source : List ℕ) (o x : Origin) (m k : Machine) → IsOf b c source o m → IsOf b c source x k
+  pub size_same : (b : Bool) (c : FlowCommand) (source : List ℕ) (o x : Origin) (m k : Machine) → IsOf b c source o m → IsOf b c source x k
       → machine_size m ≡ machine_size k
   size_same false c source equations equations m k h g = weights source m k h g
   size_same false c source equations (states f i) m k h g = absurd g
@@ -78,7 +78,7 @@ module _ (budgets : MachinesAreWithinTheSame) (one : EncodedIsOne) where
   within_same true c source equations x m k h g budget within = absurd h
 
 module _ (one : EncodedIsOne) (cover : LibrariesCoverTheSame) (lacks : CoveredLacksNothing) where
-  lacks_nothing : (b : Bool) (c : FlowCommand) (source catal : List ℕ) (cells : List (List ℕ)) (l own : Library) → IsLibraryOf c.tracks catal cells l
+  pub lacks_nothing : (b : Bool) (c : FlowCommand) (source catal : List ℕ) (cells : List (List ℕ)) (l own : Library) → IsLibraryOf c.tracks catal cells l
       → IsLibraryOf c.tracks catal cells own → (o x : Origin) (m k : Machine) → IsOf b c source o m → IsOf b c source x k → Covers l m → (kind : Kind)
       → IsFirstMissing own.cells kind (needed (has_registers k)) → ⊥
   lacks_nothing false c source catal cells l own il io equations equations m k h g covered kind missing =

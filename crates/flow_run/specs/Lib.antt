@@ -17,3 +17,4 @@ pub mod Generated
 pub mod Same
 pub mod OneLibrary
 pub mod OneRefusal
+pub mod OneStatus

@@ -8,6 +8,7 @@
 #![tactic(auto)]
 
 mod command;
+mod decided;
 mod flow;
 mod gen_run;
 mod layout;
@@ -20,6 +21,7 @@ mod source;
 mod top;
 
 pub use command::{Command, read_words};
+pub use decided::{files_have_one_refusal, one_status};
 pub use gen_run::{circuit_law, gen_law};
 pub use one_library::{
     cell_is_never_refused, covered_lacks_nothing, libraries_are_same, library_is_never_refused,
