@@ -32,7 +32,7 @@ impl Model for Paths {
     ghost invariant = { λ p. AreKeys p.kept p.keys.items };
 }
 
-/// A path more is kept, under a key that the net had not.
+/// A path more is kept, under a key that led to none; the key is the net's last.
 fn keep(
     kept: &mut Slab<Vec<Node>>,
     keys: &mut Vec<usize>,
@@ -99,7 +99,7 @@ impl Paths {
         self.keys[net].len()
     }
 
-    /// A net gets a path behind those that it has. Where memory is refused, nothing changes.
+    /// A net gets a path more, behind those that it has.
     pub(crate) fn insert(&mut self, net: usize, path: Vec<Node>) -> Result<(), AllocError>
         requires { net < length self.old }
         ensures { OnOk result (HasNow net (paths_in self.old net ++ path.items ∷ []) self.old self.new) }
@@ -118,7 +118,7 @@ impl Paths {
         give_last(&mut self.kept, &mut self.keys[net])
     }
 
-    /// The paths of a net are taken out, but for its first. It goes over these alone.
+    /// The paths of a net are taken out, but for its first. It goes over these keys alone.
     pub(crate) fn tear(&mut self, net: usize)
         requires { net < length self.old }
         ensures { HasNow net (take 1 (paths_in self.old net)) self.old self.new }
