@@ -1,4 +1,4 @@
-mod Readings
+pub mod Readings
 mod Numbers
 mod Meanings
 mod Rooting

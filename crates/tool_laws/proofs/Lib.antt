@@ -1,0 +1,7 @@
+mod Shapes
+mod Druc
+mod Sources
+mod Covering
+mod Follow
+mod Tables
+mod Lvx
