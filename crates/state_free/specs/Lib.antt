@@ -1,0 +1,4 @@
+pub mod Free
+pub mod Runs
+pub mod Meaning
+pub mod Law
