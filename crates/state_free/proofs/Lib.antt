@@ -1,2 +1,4 @@
 mod Alike
 mod Laws
+mod Finals
+mod Machines
