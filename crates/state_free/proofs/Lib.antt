@@ -2,3 +2,5 @@ mod Alike
 mod Laws
 mod Finals
 mod Machines
+mod Checks
+mod Running
