@@ -4,3 +4,4 @@ mod Finals
 mod Machines
 mod Checks
 mod Running
+mod Doing
