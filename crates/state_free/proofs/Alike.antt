@@ -1,10 +1,8 @@
 -- State machines that agree in all but outputs that are left free: their signals are as many, they assign the same next states and walk
 -- alike.
-use Rattle.std.proofs.Common.{◌≡◌, ◌⊎◌, inl, inr, ℕ, suc, ◌+◌, Bool, true, false, ◌&&◌, ◌||◌, List, [], ◌∷◌, ◌++◌, Option, None, Some, is_some, refl, sym, ap, subst, ◌∙◌, if◌then◌else◌}
-use Rattle.vlsi_base.specs.declared.name.Name.{Name}
-use Rattle.bool_expr.specs.Expression.{Expression, constant, variable, inverse, val}
+use Rattle.std.proofs.Common.{◌≡◌, inl, inr, ℕ, suc, ◌+◌, Bool, ◌||◌, List, ◌∷◌, ◌++◌, Option, Some, is_some, ap, ◌∙◌, if◌then◌else◌}
+use Rattle.bool_expr.specs.Expression.{Expression, variable, inverse, val}
 use Rattle.bool_expr.specs.Support.{among}
-use Rattle.machine_core.specs.Named.{is_same_name}
 use Rattle.fsm_machine.specs.Statements.{Assignment, output, next, Statements, finish, assign, choose, select, Parts, only, either, further, Branches, closed, others, listed}
 use Rattle.fsm_machine.specs.Walk.{after, assigns, part_assigns, branch_assigns, is_at, cased, walk, walk_parts, walk_branches, given_next}
 use Rattle.fsm_machine.specs.Signals.{along, any_of, without, signals, part_signals, branch_signals, emitted, emitted_parts, emitted_branches}

@@ -1,20 +1,17 @@
 -- Where the state machine with each free bit 0 has passed its checks, so has that with each 1.
-use Rattle.std.proofs.Common.{◌≡◌, ◌⊎◌, inl, inr, ℕ, suc, ◌+◌, ◌<◌, Bool, true, false, ◌&&◌, ◌||◌, List, length, arith, refl, sym, ap, subst, ◌∙◌, if◌then◌else◌}
-use Rattle.std.specs.List.{Contains}
+use Rattle.std.proofs.Common.{◌≡◌, inl, inr, ℕ, suc, ◌+◌, Bool, ◌&&◌, ◌||◌, List, length, arith, sym, ap, subst, ◌∙◌, if◌then◌else◌}
 use Rattle.vlsi_base.specs.declared.name.Name.{Name}
 use Rattle.bool_expr.specs.Expression.{Expression, constant, variable, inverse, pair, choice}
 use Rattle.bool_expr.specs.Support.{among}
 use Rattle.fsm_machine.specs.Statements.{Assignment, output, next, Statements, finish, assign, choose, select, Parts, only, either, further, Branches, closed, others, listed}
-use Rattle.fsm_machine.specs.Fsm.{Fsm, fsm_outputs}
-use Rattle.fsm_machine.specs.Codes.{Codes}
+use Rattle.fsm_machine.specs.Fsm.{Fsm}
 use Rattle.fsm_machine.specs.Assigned.{sure, sure_parts, sure_branches, sets_next, sets_output, IsAssigned}
 use Rattle.fsm_machine.specs.Sound.{IsKnownNext, IsSound, ArePartsSound, AreBranchesSound}
 use Rattle.fsm_machine.specs.Signals.{without, signals}
 use Rattle.fsm_machine.specs.MachineOf.{port_places, all_states}
 use Rattle.fsm_machine.proofs.Step.{moved_count}
 use Rattle.fsm_core.specs.Checked.{IsInput, ReadsInputs, IsAssignmentOf, IsBodyOf, ArePartsOf, AreBranchesOf, cases_in, cases_in_parts, cases_in_branches, ListsStates, PartsListStates, BranchesListStates, IsCheckedFsm}
-use Rattle.syf_machine.specs.Named.{HasFewSignals}
-use Rattle.state_free.specs.Free.{IsFreeAssignment, AreFreeStatements, AreFreeParts, AreFreeBranches, AreFreeFsm}
+use Rattle.state_free.specs.Free.{IsFreeAssignment, AreFreeStatements, AreFreeParts, AreFreeBranches}
 use Rattle.state_free.specs.Law.{BothAreChecked}
 use Rattle.state_free.proofs.Alike.{with_body, high_is, same_signals}
 

@@ -20,7 +20,7 @@ use Rattle.fsm_machine.specs.Statements.{Statements, Assignment, output, next}
 use Rattle.fsm_machine.specs.Walk.{given_output}
 use Rattle.fsm_machine.specs.Fsm.{Fsm, fsm_inputs, fsm_outputs, seen, walked_next, walked_output, Resets}
 use Rattle.fsm_machine.specs.Assigned.{AssignedIsKnown}
-use Rattle.fsm_machine.specs.Codes.{Codes, code_of, AreCodes}
+use Rattle.fsm_machine.specs.Codes.{Codes, code_of}
 use Rattle.fsm_machine.specs.Holds.{Holds}
 use Rattle.fsm_machine.specs.Starts.{Starts}
 use Rattle.fsm_machine.specs.Moved.{substituted, moved_assignment}
@@ -39,7 +39,7 @@ use Rattle.fsm_core.specs.Checked.{IsCheckedFsm}
 use Rattle.syf_machine.specs.Named.{port_texts, inner_names, IsMachineOf}
 use Rattle.syf_machine.proofs.Encoded.{is_encoded}
 use Rattle.syf_machine.proofs.Lists.{in_contains, some_value}
-use Rattle.state_free.specs.Free.{AreFreeStatements, AreFreeFsm}
+use Rattle.state_free.specs.Free.{AreFreeStatements}
 use Rattle.state_free.specs.Runs.{MayShow, FreeFsmRun}
 use Rattle.state_free.specs.Meaning.{MayDoAs}
 use Rattle.state_free.specs.Law.{MachinesMayDoAs}

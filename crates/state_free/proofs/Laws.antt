@@ -1,14 +1,13 @@
 -- Both walk alike, and get the same codes.
-use Rattle.std.proofs.Common.{◌≡◌, ℕ, suc, Bool, List, Option, None, refl, sym, ap, subst, ◌∙◌, length}
+use Rattle.std.proofs.Common.{ℕ, suc, Bool, List, None, ap, ◌∙◌, length}
 use Rattle.fsm_machine.specs.Fsm.{Fsm, seen, walked_next}
-use Rattle.fsm_machine.specs.Walk.{walk, given_next}
+use Rattle.fsm_machine.specs.Walk.{given_next}
 use Rattle.fsm_machine.specs.MachineOf.{up}
-use Rattle.fsm_machine.specs.Encoding.{leads, cost, exchanges, lowered, numbered, adjacent_codes}
-use Rattle.syf_encode.specs.declared.style.Style.{Style}
+use Rattle.fsm_machine.specs.Encoding.{cost, exchanges, lowered, numbered}
 use Rattle.syf_encode.specs.declared.style.Style.TheVariants as style
 use Rattle.syf_encode.specs.Codes.{codes_by}
 use Rattle.state_free.specs.Law.{BothWalkAlike, SameCodes}
-use Rattle.state_free.proofs.Alike.{with_body, high_is, same_walk, same_next, same_leads}
+use Rattle.state_free.proofs.Alike.{high_is, same_walk, same_next, same_leads}
 
 pub both_walk_alike : BothWalkAlike
 both_walk_alike low high i st free =

@@ -1,29 +1,26 @@
 -- The machines of the two by one encoding agree in all but the outputs that are left free, and no equation reads one of these.
-use Rattle.std.proofs.Common.{◌≡◌, ◌⊎◌, inl, inr, ℕ, zero, suc, ◌+◌, ◌<◌, ◌≤◌, ◌^◌, Bool, true, false, List, [], ◌∷◌, ◌++◌, map, length, codes, Option, None, Some, unwrap_or, refl, sym, ap, subst, ◌∙◌, arith, length-append, append_assoc}
+use Rattle.std.proofs.Common.{◌≡◌, ◌⊎◌, inl, inr, ℕ, zero, suc, ◌+◌, ◌<◌, ◌≤◌, true, List, [], ◌∷◌, ◌++◌, map, length, codes, None, Some, unwrap_or, refl, sym, ap, subst, ◌∙◌, arith, length-append, append_assoc}
 use Rattle.std.specs.List.{AllZip, slice_get}
-use Rattle.std.proofs.lemmas.List.{length-map}
 use Rattle.vlsi_base.specs.declared.name.Name.{Name}
 use Rattle.vlsi_base.specs.Member.{In, here, there, AllDifferent}
 use Rattle.bool_expr.specs.Expression.{Expression, constant, IsOver, variables}
 use Rattle.machine_core.specs.Machine.{Machine, Equation, Register}
 use Rattle.machine_core.proofs.Known.{IsOver-In}
-use Rattle.machine_core.proofs.Values.{In-split}
-use Rattle.machine_free.specs.Free.{AreFreed, Reads, IsFreeOutput, MayDiffer, AreFree}
+use Rattle.machine_free.specs.Free.{Reads, IsFreeOutput, MayDiffer, AreFree}
 use Rattle.text_names.specs.Free.{IsFirstFree, candidate, is_free}
 use Rattle.text_names.specs.Laws.{TextsAreFree}
 use Rattle.fsm_machine.specs.Statements.{Statements}
 use Rattle.fsm_machine.specs.Fsm.{Fsm, fsm_inputs, fsm_outputs}
-use Rattle.fsm_machine.specs.Codes.{Codes, AreCodes}
+use Rattle.fsm_machine.specs.Codes.{Codes}
 use Rattle.fsm_machine.specs.Signals.{signals}
 use Rattle.fsm_machine.specs.MachineOf.{up, named, port_places, placed_body, state_base, body_base, all_states, at_state, register_base, inner_expressions, output_expression, next_bit, equations_of, registers_of, code_names, machine_of}
 use Rattle.fsm_machine.specs.Meaning.{IsEncoded}
 use Rattle.fsm_machine.proofs.Ordered.{AreOver, inner_over}
 use Rattle.fsm_machine.proofs.Step.{moved_count, length_code_names, length_inner}
-use Rattle.fsm_core.specs.Checked.{IsCheckedFsm}
-use Rattle.syf_machine.specs.Named.{port_texts, texts_of, inner_count, inner_names, names_for, IsMachineOf}
+use Rattle.syf_machine.specs.Named.{port_texts, inner_names, names_for, IsMachineOf}
 use Rattle.syf_machine.proofs.Encoded.{is_encoded}
 use Rattle.syf_machine.proofs.Lists.{here_by}
-use Rattle.state_free.specs.Free.{AreFreeStatements, AreFreeFsm}
+use Rattle.state_free.specs.Free.{AreFreeStatements}
 use Rattle.state_free.specs.Law.{MachinesAreFree}
 use Rattle.state_free.proofs.Alike.{with_body, high_is, same_signals, same_emitted}
 use Rattle.state_free.proofs.Finals.{IsFreedBelow, same_next_bit, freed_output}

@@ -1,11 +1,10 @@
 -- Runs of what is left free.
-use Rattle.std.proofs.Common.{◌≡◌, ◌⊎◌, inl, inr, ◌↔◌, ℕ, ◌+◌, ◌<◌, Bool, true, List, [], ◌∷◌, map, length, Option, None, Some, unwrap_or, refl, sym, ap, subst, ◌∙◌, arith}
+use Rattle.std.proofs.Common.{◌≡◌, ◌⊎◌, inl, inr, ℕ, ◌<◌, Bool, true, List, [], ◌∷◌, map, length, Option, None, Some, refl, sym, subst, ◌∙◌, arith}
 use Rattle.std.specs.List.{AllZip}
 use Rattle.vlsi_base.specs.declared.name.Name.{Name}
 use Rattle.bool_expr.specs.Support.{among}
 use Rattle.fsm_machine.specs.Fsm.{Fsm, fsm_outputs, seen, walked_next, walked_output, FsmRun}
 use Rattle.fsm_machine.specs.Assigned.{AssignedIsKnown}
-use Rattle.fsm_machine.specs.Sound.{IsSound}
 use Rattle.fsm_machine.specs.MachineOf.{all_states}
 use Rattle.fsm_machine.proofs.Nexts.{IsAmong, walk_among}
 use Rattle.fsm_machine.proofs.States.{among_up}
@@ -41,19 +40,20 @@ may_known known (n ∷ names) (b ∷ outs) h =
 
 pub low_runs : (low high : Fsm) (v : List (List Bool)) (s : ℕ) (y : List (List Bool)) → FsmRun low s v y → FreeFsmRun low high s v y
 low_runs low high [] s y run = run
-low_runs low high (i ∷ v) s y (o, outputs, (t, walked, (rest, are, run))) =
-    (o, known_may (walked_output low i (Some s)) (λ n b. MayShow low high i s n b) (λ n b h. inl h) (fsm_outputs low) o outputs,
-    (t, walked, (rest, are, low_runs low high v t rest run)))
+low_runs low high (i ∷ v) s y (o, outputs, (t, walked, (rest, are, run))) = (
+  o,
+  known_may (walked_output low i (Some s)) (λ n b. MayShow low high i s n b) (λ n b h. inl h) (fsm_outputs low) o outputs,
+  (t, walked, (rest, are, low_runs low high v t rest run)),
+)
 
 high_runs : (low high : Fsm) → AreFreeFsm low high → fsm_outputs high ≡ fsm_outputs low → (v : List (List Bool)) (s : ℕ) (y : List (List Bool)) → FsmRun high s v y → FreeFsmRun low high s v y
 high_runs low high free same [] s y run = run
-high_runs low high free same (i ∷ v) s y (o, outputs, (t, walked, (rest, are, run))) =
-    (
-      o,
-      subst (λ (names : List Name). AllZip (λ n b. MayShow low high i s n b) names o) same
-          (known_may (walked_output high i (Some s)) (λ n b. MayShow low high i s n b) (λ n b h. inr h) (fsm_outputs high) o outputs),
-      (t, sym (both_walk_alike low high i (Some s) free) ∙ walked, (rest, are, high_runs low high free same v t rest run)),
-    )
+high_runs low high free same (i ∷ v) s y (o, outputs, (t, walked, (rest, are, run))) = (
+  o,
+  subst (λ (names : List Name). AllZip (λ n b. MayShow low high i s n b) names o) same
+      (known_may (walked_output high i (Some s)) (λ n b. MayShow low high i s n b) (λ n b h. inr h) (fsm_outputs high) o outputs),
+  (t, sym (both_walk_alike low high i (Some s) free) ∙ walked, (rest, are, high_runs low high free same v t rest run)),
+)
 
 pub both_may_run : BothMayRun
 both_may_run low high s v y free = (

@@ -1,6 +1,6 @@
 -- State machines whose outputs are left free in part: each is two state machines, with every free bit 0 in the one and 1 in the other.
-use Rattle.std.specs.Prelude.{◌≡◌, ◌⊎◌, ℕ, false, true, List}
-use Rattle.bool_expr.specs.Expression.{Expression, constant}
+use Rattle.std.specs.Prelude.{◌≡◌, ◌⊎◌, false, true}
+use Rattle.bool_expr.specs.Expression.{constant}
 use Rattle.fsm_machine.specs.Statements.{Assignment, output, next, Statements, finish, assign, choose, select, Parts, only, either, further, Branches, closed, others, listed}
 use Rattle.fsm_machine.specs.Fsm.{Fsm}
 

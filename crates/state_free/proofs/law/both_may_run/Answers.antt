@@ -2,4 +2,4 @@ use Rattle.state_free.proofs.Running.{both_may_run}
 use Rattle.state_free.proofs.law.both_may_run.Goals as goal
 
 pub returns : goal.returns
-returns c = both_may_run 
+returns c = both_may_run
