@@ -93,6 +93,7 @@ pub(crate) fn chosen<const K: usize>(
     held: u32,
     graph: &Graph,
     roots: &[u32],
+    is_last: bool,
 ) -> Result<Vec<Option<Gate>>, AllocError>
     requires few { K ≤ 6 }
     requires table { IsTable cells.now table.now.maps.items }
@@ -110,7 +111,7 @@ pub(crate) fn chosen<const K: usize>(
         let next = choices(alloc, cells, areas, table, cuts, held, graph, &counts)?;
         counts = cover_readers(alloc, &next, roots)?;
         let area = area_of(&next, areas, &counts);
-        if area < least {
+        if is_last || area < least {
             gates = next;
             least = area;
         }
