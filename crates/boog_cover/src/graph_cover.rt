@@ -123,70 +123,13 @@ fn covered<const K: usize>(
     ensures { IfOk result (λ gates. IsCoveredWith K cells.now held graph.now.nodes roots.now gates.items) }
 {
     let cuts: CutTable<K> = cuts(alloc, held, graph)?;
-    let gates = chosen(alloc, cells, areas, table, &cuts, held, graph, roots, false)?;
+    let gates = chosen(alloc, cells, areas, table, &cuts, held, graph, roots)?;
     let gates = needed(alloc, gates, held as usize, roots)?;
     tightened(alloc, cells, table, gates, held as usize, roots)
 }
 
 /// A cover whose nodes get other gates, step by step, before pairs are put into one; None where it has too many pins, more columns than
-/// the one that was begun with, or a gate that reads a node that no root of the graph needs. It begins with the cover of the last round
-/// of choices, or with the one of least area. Takes memory for the cuts of each node.
-fn lesser_from<const K: usize>(
-    alloc: Global,
-    cells: &[CellWord],
-    areas: &[u32],
-    table: &Table,
-    held: u32,
-    graph: &Graph,
-    roots: &[u32],
-    is_last: bool,
-) -> Result<Option<Vec<Option<Gate>>>, AllocError>
-    requires some { 2 ≤ K }
-    requires few { K ≤ 6 }
-    requires inputs { (k : ℕ) → inputs_of cells.now k ≤ 6 }
-    requires table { IsTable cells.now table.now.maps.items }
-    requires has { HasCells cells.now }
-    requires numbers { held + length graph.now.nodes + length roots.now < 2 ^ 32 }
-    requires earlier { EachReadsEarlier held graph.now.nodes }
-    requires roots { (x : ℕ) → 0 < times x roots.now → x < held + length graph.now.nodes }
-    ensures { IfOk result (λ made. IfSome made (λ gates. IsCovered cells.now held graph.now.nodes roots.now gates.items)) }
-{
-    let cuts: CutTable<K> = cuts(alloc, held, graph)?;
-    let begun = chosen(
-        alloc, cells, areas, table, &cuts, held, graph, roots, is_last,
-    )?;
-    let before = columns_of(alloc, &begun, areas, roots)?;
-    let marks = needed_marks(alloc, held, graph, roots)?;
-    let steps = steps(alloc, cells, areas, &begun, &marks, roots)?;
-    let gates = replaced(cells, begun, held as usize, steps);
-    if columns_of(alloc, &gates, areas, roots)? > before {
-        return Ok(None);
-    }
-    let left = needed(alloc, gates, held as usize, roots)?;
-    if leaf_count(&left) > 2 * graph.nodes().len() {
-        return Ok(None);
-    }
-    if !are_marked(&left, &marks) {
-        return Ok(None);
-    }
-    let last = tightened(alloc, cells, table, left, held as usize, roots)?;
-    Ok(Some(last))
-}
-
-/// The columns of a cover, which are the most there are where there is none.
-fn columns_if(
-    alloc: Global,
-    gates: &Option<Vec<Option<Gate>>>,
-    areas: &[u32],
-    roots: &[u32],
-) -> Result<u64, AllocError> {
-    match gates {
-        Some(gates) => columns_of(alloc, gates, areas, roots),
-        None => Ok(u64::MAX),
-    }
-}
-
-/// The narrower of the covers that begin with the one of least area and with that of the last round.
+/// the one that was begun with, or a gate that reads a node that no root of the graph needs. Takes memory for the cuts of each node.
 fn lesser_cover<const K: usize>(
     alloc: Global,
     cells: &[CellWord],
@@ -206,13 +149,24 @@ fn lesser_cover<const K: usize>(
     requires roots { (x : ℕ) → 0 < times x roots.now → x < held + length graph.now.nodes }
     ensures { IfOk result (λ made. IfSome made (λ gates. IsCovered cells.now held graph.now.nodes roots.now gates.items)) }
 {
-    let least = lesser_from::<K>(alloc, cells, areas, table, held, graph, roots, false)?;
-    let last = lesser_from::<K>(alloc, cells, areas, table, held, graph, roots, true)?;
-    let columns = columns_if(alloc, &least, areas, roots)?;
-    if columns_if(alloc, &last, areas, roots)? < columns {
-        return Ok(last);
+    let cuts: CutTable<K> = cuts(alloc, held, graph)?;
+    let begun = chosen(alloc, cells, areas, table, &cuts, held, graph, roots)?;
+    let before = columns_of(alloc, &begun, areas, roots)?;
+    let marks = needed_marks(alloc, held, graph, roots)?;
+    let steps = steps(alloc, cells, areas, &begun, &marks, roots)?;
+    let gates = replaced(cells, begun, held as usize, steps);
+    if columns_of(alloc, &gates, areas, roots)? > before {
+        return Ok(None);
     }
-    Ok(least)
+    let left = needed(alloc, gates, held as usize, roots)?;
+    if leaf_count(&left) > 2 * graph.nodes().len() {
+        return Ok(None);
+    }
+    if !are_marked(&left, &marks) {
+        return Ok(None);
+    }
+    let last = tightened(alloc, cells, table, left, held as usize, roots)?;
+    Ok(Some(last))
 }
 
 fn has_wide(cells: &[CellWord]) -> bool {
@@ -246,9 +200,8 @@ fn wide_cover(
 /// Gates of cells that cover the graph, whose first node has number `held`; no cell stands for any pair of them, and together they
 /// have at most two pins for each node. Each node's gate is the one of least area, each shared among those that read it; of cells that
 /// compute one word the first is taken, so the cells are given by rising area, and `areas` in the same order. Then nodes get other gates
-/// over other nodes, step by step, where this takes fewer columns; that begins from two covers, and the narrower one is taken. Where that
-/// or cuts of more than two leaves give too many pins, it is left out, or each gate has two. Takes memory for the cuts of each node and
-/// for the cells' orders.
+/// over other nodes, step by step, where this takes fewer columns. Where that or cuts of more than two leaves give too many pins, it is
+/// left out, or each gate has two. Takes memory for the cuts of each node and for the cells' orders.
 pub fn cover(
     alloc: Global,
     cells: &[CellWord],

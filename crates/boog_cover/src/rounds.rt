@@ -93,7 +93,6 @@ pub(crate) fn chosen<const K: usize>(
     held: u32,
     graph: &Graph,
     roots: &[u32],
-    is_last: bool,
 ) -> Result<Vec<Option<Gate>>, AllocError>
     requires few { K ≤ 6 }
     requires table { IsTable cells.now table.now.maps.items }
@@ -111,7 +110,7 @@ pub(crate) fn chosen<const K: usize>(
         let next = choices(alloc, cells, areas, table, cuts, held, graph, &counts)?;
         counts = cover_readers(alloc, &next, roots)?;
         let area = area_of(&next, areas, &counts);
-        if is_last || area < least {
+        if area < least {
             gates = next;
             least = area;
         }

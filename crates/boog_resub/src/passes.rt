@@ -1,7 +1,6 @@
 // Passes over the gates, up and down, until nothing is gained.
 
 use crate::lists::copied;
-use crate::net::Columns;
 use crate::work::Work;
 use arrayvec::ArrayVec;
 use cell_match::{CellWord, Gate};
@@ -39,66 +38,41 @@ fn improve(
     Ok(())
 }
 
-/// What passes come to: their steps, and the columns that these gain.
-#[derive(Drop)]
-struct Passed {
-    steps: Vec<Step>,
-    gained: Columns,
-}
-
-/// One pass over all gates, upwards where its number is even, with what it changes noted for the next one.
-fn go_over(
-    work: &mut Work,
-    steps: &mut Vec<Step>,
-    cells: &[CellWord],
-    areas: &[u32],
-    pass: u32,
-) -> Result<(), AllocError> {
-    let nodes = work.net.nodes();
-    let is_up = pass % 2 == 0;
-    if !is_up {
-        work.timing.forget_rests();
-    }
-    for count in 0..nodes {
-        let node = if is_up {
-            count
-        } else {
-            nodes.wrapping_sub(count).wrapping_sub(1)
-        };
-        if work.net.is_read(node) && work.net.gate(node).is_some() {
-            improve(work, steps, cells, areas, node, pass)?;
-        }
-        if is_up {
-            work.timing.note_arrival(&work.net, node);
-        } else {
-            work.timing.note_rests(&work.net, node);
-        }
-    }
-    Ok(())
-}
-
-/// Passes from the one of this number on, until some in a row gain nothing.
-fn run_passes(
+/// Steps that make a cover narrower, each over the cover that the ones before it made. The cover has a gate for each node that is marked,
+/// of which those count that roots need; `areas` has the columns of each cell. Takes memory for each node, and time for each node and pass.
+pub fn steps(
     alloc: Global,
     cells: &[CellWord],
     areas: &[u32],
     gates: &[Option<Gate>],
     marks: &[bool],
     roots: &[u32],
-    first: u32,
-) -> Result<Passed, AllocError> {
+) -> Result<Vec<Step>, AllocError> {
     let mut work = Work::new(alloc, cells, areas, gates, marks, roots)?;
     let mut steps = Vec::new(alloc);
+    let nodes = work.net.nodes();
     let mut idle: u32 = 0;
-    for count in 0..PASSES {
+    for pass in 0..PASSES {
         let before = work.gained;
-        go_over(
-            &mut work,
-            &mut steps,
-            cells,
-            areas,
-            count.saturating_add(first),
-        )?;
+        let is_up = pass % 2 == 0;
+        if !is_up {
+            work.timing.forget_rests();
+        }
+        for count in 0..nodes {
+            let node = if is_up {
+                count
+            } else {
+                nodes.wrapping_sub(count).wrapping_sub(1)
+            };
+            if work.net.is_read(node) && work.net.gate(node).is_some() {
+                improve(&mut work, &mut steps, cells, areas, node, pass)?;
+            }
+            if is_up {
+                work.timing.note_arrival(&work.net, node);
+            } else {
+                work.timing.note_rests(&work.net, node);
+            }
+        }
         idle = if work.gained > before {
             0
         } else {
@@ -108,27 +82,5 @@ fn run_passes(
             break;
         }
     }
-    Ok(Passed {
-        steps,
-        gained: work.gained,
-    })
-}
-
-/// Steps that make a cover narrower, each over the cover that the ones before it made: those of passes that begin upwards, or of passes
-/// that begin downwards where these gain more. The cover has a gate for each node that is marked, of which those count that roots need;
-/// `areas` has the columns of each cell. Takes memory for each node, and time for each node and pass.
-pub fn steps(
-    alloc: Global,
-    cells: &[CellWord],
-    areas: &[u32],
-    gates: &[Option<Gate>],
-    marks: &[bool],
-    roots: &[u32],
-) -> Result<Vec<Step>, AllocError> {
-    let up = run_passes(alloc, cells, areas, gates, marks, roots, 0)?;
-    let down = run_passes(alloc, cells, areas, gates, marks, roots, 1)?;
-    if down.gained > up.gained {
-        return Ok(down.steps);
-    }
-    Ok(up.steps)
+    Ok(steps)
 }

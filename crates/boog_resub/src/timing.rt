@@ -21,6 +21,9 @@ const READER: Time = 5;
 
 const MOST_READERS: u32 = 8;
 
+/// How many hundredths of the longest way there may be: what wires take isn't seen.
+const PERCENT: Time = 97;
+
 /// What each cell takes that nothing reads, when each node has its bit at the latest, how long the longest way from it to a root is, and
 /// how long a way may be.
 #[derive(Drop)]
@@ -71,7 +74,7 @@ impl Timing {
             limit: 0,
         };
         timing.note_all(net);
-        timing.limit = timing.longest(net);
+        timing.limit = timing.longest(net).saturating_mul(PERCENT) / 100;
         Ok(timing)
     }
 

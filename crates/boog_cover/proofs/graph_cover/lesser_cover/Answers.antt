@@ -6,7 +6,7 @@ use Rattle.boog_tight.specs.Kept.{leaf_count}
 use Rattle.boog_cuts.proofs.Whole.{map_long}
 use Rattle.boog_cover.specs.Lesser.{ReadMarked}
 use Rattle.boog_cover.proofs.Narrowing.{chosen_whole, left_covers, left_inside, narrowed}
-use Rattle.boog_cover.proofs.graph_cover.lesser_from.Goals as goal
+use Rattle.boog_cover.proofs.graph_cover.lesser_cover.Goals as goal
 
 pub needed-requires-clause-roots : goal.needed-requires-clause-roots
 needed-requires-clause-roots g c = λ x some.
