@@ -1,0 +1,11 @@
+mod Operands
+mod Stringing
+mod Mentions
+mod Bits
+mod Alike
+mod Declared
+mod Few
+mod Fits
+mod Both
+mod Reading
+mod Once

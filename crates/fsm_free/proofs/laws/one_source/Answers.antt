@@ -1,0 +1,5 @@
+use Rattle.fsm_free.proofs.Once as once
+use Rattle.fsm_free.proofs.laws.one_source.Goals as goal
+
+pub returns : goal.returns
+returns c = once.one_source
