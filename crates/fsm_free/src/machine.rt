@@ -52,7 +52,7 @@ fn checked(alloc: Global, file: &StateFile, pragmas: &[Pragma]) -> Result<StateM
 }
 
 // The two state machines of a text, or why the one with each free bit 0 is none.
-#[tactic(auto, using(crate::proofs::Both::fits_low, crate::proofs::Both::fits_high, crate::proofs::Both::low_refused, crate::proofs::Both::high_refused, crate::proofs::Both::made_both))]
+#[tactic(auto, using(crate::proofs::Both::low_refused, crate::proofs::Both::made_both))]
 fn both(alloc: Global, made: Filled, pragmas: &[Pragma]) -> Result<FreeStateMachine, ReadError>
     requires checked { MayBeChecked (machine_view made.file) }
     requires zeros { body_view made.zeros ≡ filled_body false (machine_view made.file).step.body }
@@ -75,7 +75,7 @@ fn both(alloc: Global, made: Filled, pragmas: &[Pragma]) -> Result<FreeStateMach
 }
 
 /// The state machines that the tokens are with each free bit 0 and with each 1, or why they are none with each 0.
-#[tactic(auto, using(crate::proofs::Both::unwritten_refused, crate::proofs::Both::may_be_both, crate::proofs::Both::faulty_refused, crate::proofs::Both::are_filled))]
+#[tactic(auto, using(crate::proofs::Both::unwritten_refused, crate::proofs::Both::are_filled))]
 pub fn free_machine(alloc: Global, tokens: &Tokens) -> Result<FreeStateMachine, ReadError>
     requires { length tokens.now.items ≤ MOST_SOURCE_BYTES }
     ensures machine { IfOk result (λ f. AreFilled tokens.now f) }

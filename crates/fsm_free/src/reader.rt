@@ -1,7 +1,8 @@
 // The reader.
 ghost use Rattle.std.specs.Prelude.{◌≡◌, true, false, IfOk, IfErr};
 ghost use Rattle.fsm_io.specs.Text.{IsFsm, IsFsmRefusal};
-ghost use Rattle.fsm_free.specs.Tokens.{leaves_free};
+ghost use Rattle.fsm_free.specs.declared.tokens.Place.TheVariants.{Before};
+ghost use Rattle.fsm_free.specs.Tokens.{has_free as leaves_bits};
 ghost use Rattle.fsm_free.specs.Text.{IsFreeFsm, IsSource, IsFreeRefusal, IsSourceRefusal};
 ghost use Rattle.fsm_free.specs.Pieces.{AreTokens};
 
@@ -65,6 +66,34 @@ fn free(alloc: Global, bytes: &[u8], tokens: Tokens) -> Result<FreeStateMachine,
     }
 }
 
+// What a text with these tokens is, which leaves bits free.
+#[tactic(auto, using(crate::proofs::Reading::source_free, crate::proofs::Reading::refused_free))]
+fn free_source(alloc: Global, bytes: &[u8], tokens: Tokens) -> Result<FsmSource, ReadError>
+    requires tokens { AreTokens bytes.now tokens }
+    requires free { leaves_bits false Before tokens.items ≡ true }
+    ensures accepted { IfOk result (λ s. IsSource bytes.now s) }
+    ensures refused { IfErr result (λ e. IsSourceRefusal bytes.now e) }
+{
+    match free(alloc, bytes, tokens) {
+        Ok(read) => Ok(FsmSource::Free(read)),
+        Err(e) => Err(e),
+    }
+}
+
+// What a text with these tokens is, which leaves nothing free.
+#[tactic(auto, using(crate::proofs::Reading::source_fixed, crate::proofs::Reading::refused_fixed))]
+fn fixed_source(alloc: Global, bytes: &[u8], tokens: &Tokens) -> Result<FsmSource, ReadError>
+    requires tokens { AreTokens bytes.now tokens.now }
+    requires fixed { leaves_bits false Before tokens.now.items ≡ false }
+    ensures accepted { IfOk result (λ s. IsSource bytes.now s) }
+    ensures refused { IfErr result (λ e. IsSourceRefusal bytes.now e) }
+{
+    match fixed(alloc, bytes, tokens) {
+        Ok(read) => Ok(FsmSource::Fixed(read)),
+        Err(e) => Err(e),
+    }
+}
+
 /// Reads the text of a state machine that may leave bits of outputs free: a statement of it may have the form `TARGET <= 'd';`.
 ///
 /// A text that has no such bit, or isn't cut into tokens, is read as `read_fsm` of `fsm_io` reads it. Else it is refused as
@@ -73,21 +102,14 @@ fn free(alloc: Global, bytes: &[u8], tokens: Tokens) -> Result<FreeStateMachine,
 /// free bit. So one that is assigned to something else than a bit of an output is refused by `Width` or `Unsupported`. What is
 /// answered is the state machine with each free bit 0, and the one with each 1. Memory and time as of `read_fsm`, where the text
 /// is read twice.
-#[tactic(auto, using(crate::proofs::Reading::source_free, crate::proofs::Reading::source_fixed, crate::proofs::Reading::refused_free, crate::proofs::Reading::refused_fixed))]
 pub fn read_free_fsm(alloc: Global, bytes: &[u8]) -> Result<FsmSource, ReadError>
     ensures accepted { IfOk result (λ s. IsSource bytes.now s) }
     ensures refused { IfErr result (λ e. IsSourceRefusal bytes.now e) }
 {
     let tokens = tokens_of(alloc, bytes)?;
     if has_free(tokens.items.as_slice()) {
-        match free(alloc, bytes, tokens) {
-            Ok(read) => Ok(FsmSource::Free(read)),
-            Err(e) => Err(e),
-        }
+        free_source(alloc, bytes, tokens)
     } else {
-        match fixed(alloc, bytes, &tokens) {
-            Ok(read) => Ok(FsmSource::Fixed(read)),
-            Err(e) => Err(e),
-        }
+        fixed_source(alloc, bytes, &tokens)
     }
 }
